@@ -1,0 +1,10 @@
+pub mod Meaning
+pub mod Rounding
+pub mod Row
+pub mod Given
+pub mod Flat
+pub mod Nearness
+pub mod Most
+pub mod RowLimits
+pub mod GivenLimits
+pub mod FlatLimits

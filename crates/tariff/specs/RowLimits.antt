@@ -1,0 +1,27 @@
+-- The limits of the common row, by one test over the whole table.
+use mathlib.Core.Path.{_≡_, refl, ap, _∙_}
+use mathlib.Core.Bool.{Bool, cond}
+use Prim.Native.Nat.{ℕ, _+_, _-_, _*_, _/_, _%_, _≤_}
+use native.Mathlib.Nat.{mul-le-mul}
+use native.Mathlib.Omega.{arith}
+use lib.Dec.{ltb}
+use Rattle.std.proofs.shelf.Tests.{cond-both}
+use Rattle.tariff.specs.Meaning.{Coefficient-limits}
+use Rattle.tariff.specs.Most.{at-most}
+use Rattle.tariff.specs.Row.{row, after-years, interpolated, coefficient-after}
+
+pub row-most : (x : ℕ) → after-years x ≤ 128
+row-most = at-most 128 row refl
+
+pub part-most : (parts x : ℕ) → parts ≤ 12 → parts * after-years x ≤ 1536
+part-most parts x few = mul-le-mul few (row-most x)
+
+-- no coefficient of the row passes 2
+pub after-limits : (m : ℕ) → Coefficient-limits (coefficient-after m)
+unfolding coefficient-after
+after-limits m =
+    let one = part-most (12 - m % 12) (m / 12) (omega arith) in
+    let two = part-most (m % 12) (m / 12 + 1) (omega arith) in
+    let all : cond (ltb m 240) (interpolated (m / 12) (m % 12)) 300 ≤ 3072 =
+    cond-both (ltb m 240) (interpolated (m / 12) (m % 12)) 300 (λ n. n ≤ 3072) (λ _. omega arith) (λ _. omega arith) in
+    record { some = omega arith; small = omega arith; most = omega arith; four = omega arith }

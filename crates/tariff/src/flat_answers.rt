@@ -1,0 +1,77 @@
+// How the flat sheet is filled, and what it answers.
+ghost use mathlib.Core.Path.{_≡_};
+ghost use Rattle.std.specs.Results.{Cases};
+ghost use Rattle.std.specs.declared.option.Option.the-variants.{Some, None};
+ghost use Rattle.tariff.specs.Given.{no-terms, making};
+ghost use Rattle.tariff.specs.Flat.{flat, flat-meaning};
+ghost use Rattle.tariff.specs.FlatLimits.{flat-lawful};
+use crate::flat::FlatSheet;
+use crate::given::Prices;
+use crate::given::Terms;
+use crate::given::weight_in;
+use crate::kinds::Coefficient;
+use crate::kinds::Kind;
+use crate::rounding::rounded_five_down;
+use crate::row::coefficient_after;
+use crate::tariff::Tariff;
+use calendar::months_between;
+use refusal::Refusal;
+
+impl FlatSheet {
+    // A place for a sheet: until it is filled it has no price, levies no contribution and weighs nothing.
+    pub const fn empty() -> FlatSheet
+        ensures value { λ r. ⌜ flat-meaning r ≡ flat None no-terms ⌝ }
+    {
+        FlatSheet {
+            prices: None,
+            terms: Terms {
+                contribution: 0,
+                weights: [0; 41],
+            },
+        }
+    }
+
+    // Fills the sheet with prices and terms, or refuses them and leaves it as it was.
+    pub fn fill(&mut self, prices: Prices, terms: Terms) -> Result<(), Refusal>
+        ensures answer { λ r. ⌜ r ≡ making prices terms ⌝ }
+        ensures after { λ r. ⌜ Cases r (λ _. flat-meaning (now (self .exit)) ≡ flat (Some prices) terms) (λ _. now (self .exit) ≡ now (self .entry)) ⌝ }
+    {
+        if !prices.fits() || !terms.fits() {
+            return Err(Refusal::BadSheet);
+        }
+        *self = FlatSheet {
+            prices: Some(prices),
+            terms,
+        };
+        Ok(())
+    }
+}
+
+pub impl Tariff for FlatSheet as FlatTariff {
+    ghost meaning = { flat-meaning };
+
+    ghost lawful = { flat-lawful };
+
+    fn price(&self, kind: Kind, _installed: u32) -> Option<u32> {
+        let Some(prices) = self.prices else {
+            return None;
+        };
+        Some(prices.of(kind))
+    }
+
+    fn coefficient(&self, installed: u32, receipt: u32) -> Option<Coefficient> {
+        Some(coefficient_after(months_between(installed, receipt)))
+    }
+
+    fn contribution(&self) -> u32 {
+        self.terms.contribution
+    }
+
+    fn weight(&self, index: u32) -> u32 {
+        weight_in(&self.terms.weights, index)
+    }
+
+    fn rounded(&self, numerator: u64, denominator: u32) -> u64 {
+        rounded_five_down(numerator, denominator)
+    }
+}

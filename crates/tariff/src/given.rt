@@ -1,0 +1,86 @@
+// What a sheet is given when it is made: its prices, and how contributions are levied and shared.
+ghost use mathlib.Core.Path.{_≡_};
+ghost use lib.ListN.{getD};
+ghost use Rattle.tariff.specs.Given.{price-of, price-fits, prices-fit, terms-fit};
+ghost use Rattle.tariff.specs.Most.{all-at-most};
+use crate::kinds::Kind;
+
+// The dearest price per tranche and dwelling, in micro-euros.
+const MOST_PRICE: u32 = 500_000_000;
+
+// The whole of a price, in hundredths.
+const WHOLE: u32 = 100;
+
+// What a tranche weighs at most.
+const MOST_WEIGHT: u32 = 200;
+
+// The price per tranche and dwelling of each kind, in micro-euros.
+#[derive(Clone, Copy, PartialEq, Eq, Debug)]
+pub struct Prices {
+    pub covered: u32,
+    pub connectable: u32,
+    pub third: u32,
+}
+
+// The contribution in hundredths of the price, and the weight of a tranche by the year index of its subscription.
+#[derive(Clone, Copy)]
+pub struct Terms {
+    pub contribution: u32,
+    pub weights: [u32; 41],
+}
+
+impl Prices {
+    // The price of a kind.
+    pub const fn of(&self, kind: Kind) -> u32
+        ensures value { λ r. ⌜ r ≡ price-of (now (self .entry)) kind ⌝ }
+    {
+        match kind {
+            Kind::Covered => self.covered,
+            Kind::Connectable => self.connectable,
+            Kind::ThirdParty => self.third,
+        }
+    }
+
+    // Whether each price is from 1 to 500,000,000 micro-euros.
+    pub const fn fits(&self) -> bool
+        ensures value { λ r. ⌜ r ≡ prices-fit (now (self .entry)) ⌝ }
+    {
+        price_fits(self.covered) && price_fits(self.connectable) && price_fits(self.third)
+    }
+}
+
+const fn price_fits(price: u32) -> bool
+    ensures value { λ r. ⌜ r ≡ price-fits price ⌝ }
+{
+    1 <= price && price <= MOST_PRICE
+}
+
+impl Terms {
+    // Whether the contribution is at most 100 hundredths and each weight at most 200.
+    pub fn fits(&self) -> bool
+        ensures value { λ r. ⌜ r ≡ terms-fit (now (self .entry)) ⌝ }
+    {
+        self.contribution <= WHOLE && weights_fit(&self.weights)
+    }
+}
+
+fn weights_fit(weights: &[u32]) -> bool
+    ensures value { λ r. ⌜ r ≡ all-at-most 200 (now (weights .entry)) ⌝ }
+{
+    for weight in weights {
+        if *weight > MOST_WEIGHT {
+            return false;
+        }
+    }
+    true
+}
+
+// The weight of a year index; beyond the last index there is none.
+pub(crate) fn weight_in(weights: &[u32], index: u32) -> u32
+    ensures value { λ r. ⌜ r ≡ getD (now (weights .entry)) index 0 ⌝ }
+{
+    match weights.get(index as usize) {
+        Some(weight) => *weight,
+        None => 0,
+    }
+}
