@@ -1,0 +1,3 @@
+pub mod TableLimits
+pub mod PlaceLimits
+pub mod Placing
