@@ -2,3 +2,4 @@
 pub mod order;
 pub mod price;
 mod tables;
+pub mod text;
