@@ -1,0 +1,45 @@
+-- Words of a line and numbers.
+--   word        the longest run of bytes that are no blanks, after the blanks in front
+--   after-word  what follows it
+--   number      one to nine decimal digits
+use mathlib.Core.List.{List, [], _∷_}
+use mathlib.Core.Bool.{Bool, cond, not, _&&_, _||_}
+use Prim.Native.Nat.{ℕ, _+_, _-_, _*_}
+use lib.Dec.{leb, eqb}
+use lib.ListN.{length, take, drop}
+use Rattle.std.specs.Options.{isSome, valueOr}
+use Rattle.std.specs.shelf.Lists.{leading}
+use Rattle.std.specs.declared.option.Option.{Option}
+use Rattle.std.specs.declared.option.Option.the-variants.{Some, None}
+use Rattle.calendar.specs.Days.{within}
+
+-- A space, a tab or a carriage return.
+abbrev pub blank : ℕ → Bool
+blank b = eqb b 32 || (eqb b 9 || eqb b 13)
+
+abbrev pub blank-as : Bool → ℕ → Bool
+blank-as blanks b = cond blanks (blank b) (not (blank b))
+
+abbrev pub after-blanks : List ℕ → List ℕ
+after-blanks line = drop (leading blank line) line
+
+abbrev pub word-length : List ℕ → ℕ
+word-length line = leading (λ b. not (blank b)) (after-blanks line)
+
+unfoldable pub word : List ℕ → List ℕ
+word line = take (word-length line) (after-blanks line)
+
+unfoldable pub after-word : List ℕ → List ℕ
+after-word line = drop (word-length line) (after-blanks line)
+
+-- The value of a byte from 0 to 9.
+abbrev pub digit : ℕ → Option ℕ
+digit byte = cond (within 48 byte 57) (Some (byte - 48)) None
+
+-- Further digits after a number so far.
+abbrev pub read-on : ℕ → List ℕ → Option ℕ
+read-on n [] = Some n
+read-on n (byte ∷ bytes) = cond (isSome (digit byte)) (read-on (n * 10 + valueOr (digit byte) 0) bytes) None
+
+unfoldable pub number : List ℕ → Option ℕ
+number word = cond (within 1 (length word) 9) (read-on 0 word) None

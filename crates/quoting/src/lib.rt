@@ -1,0 +1,3 @@
+// Orders for links and fibres read from lines of text, priced, and answered in text.
+pub mod words;
+pub mod number;
