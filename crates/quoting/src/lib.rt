@@ -1,3 +1,5 @@
 // Orders for links and fibres read from lines of text, priced, and answered in text.
 pub mod words;
 pub mod number;
+pub mod request;
+pub mod read;
