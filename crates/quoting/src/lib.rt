@@ -3,3 +3,4 @@ pub mod words;
 pub mod number;
 pub mod request;
 pub mod read;
+pub mod reply;
