@@ -3,6 +3,7 @@ ghost use mathlib.Core.Path.{_≡_};
 ghost use Rattle.refusal.specs.Numbers.{number-of};
 ghost use Rattle.refusal.specs.Sentences.{sentence-of};
 ghost use Rattle.std.specs.declared.option.Option.the-variants.{Some};
+use std::error::Error;
 use std::fmt;
 
 // The fault type of every layer, from the price sheet to the program.
@@ -87,3 +88,5 @@ pub impl fmt::Display for Refusal as RefusalDisplay {
         f.write_str(self.sentence())
     }
 }
+
+pub impl Error for Refusal as RefusalError {}
