@@ -16,8 +16,14 @@ pub impl fmt::Display for Order as OrderDisplay {
         let metres = self.metres;
         let fibres = self.fibres;
         match self.service {
-            Some(service) => write!(f, "ORDERED {ordered} METRES {metres} FIBRES {fibres} SERVICE {service}"),
-            None => write!(f, "ORDERED {ordered} METRES {metres} FIBRES {fibres} SERVICE UNKNOWN"),
+            Some(service) => write!(
+                f,
+                "ORDERED {ordered} METRES {metres} FIBRES {fibres} SERVICE {service}"
+            ),
+            None => write!(
+                f,
+                "ORDERED {ordered} METRES {metres} FIBRES {fibres} SERVICE UNKNOWN"
+            ),
         }
     }
 }

@@ -22,6 +22,9 @@ pub impl fmt::Display for Money as MoneyDisplay {
         let fourth = self.0 / 100 % 10;
         let fifth = self.0 / 10 % 10;
         let sixth = self.0 % 10;
-        write!(f, "{euros}.{tenths}{hundredths}{third}{fourth}{fifth}{sixth}")
+        write!(
+            f,
+            "{euros}.{tenths}{hundredths}{third}{fourth}{fifth}{sixth}"
+        )
     }
 }

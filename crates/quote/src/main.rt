@@ -1,14 +1,10 @@
 // Prices orders for links and extra fibres: one order a line on standard input, one reply a line on standard output.
-use quoting::reply::Reply;
-use quoting::reply::ReplyDisplay;
-use quoting::reply::answer_to;
+use quoting::desk::serve;
 use refusal::Refusal;
 use refusal::RefusalDebug;
 use refusal::RefusalDisplay;
 use refusal::RefusalError;
 use std::error::AnyError;
-use std::io::BufRead;
-use std::io::BufReader;
 use tariff::flat::FlatSheet;
 use tariff::flat_answers::FlatTariff;
 use tariff::given::Prices;
@@ -30,18 +26,7 @@ const TERMS: Terms = Terms {
 fn run(rt: &LibcRuntime) -> Result<(), AnyError> {
     let mut sheet = FlatSheet::empty();
     sheet.fill(PRICES, TERMS)?;
-    let mut number = 0u64;
-    for line in BufReader::new(rt.stdin()).split(rt.alloc(), b'\n') {
-        let line = line?;
-        number = number.saturating_add(1);
-        if let Some(answer) = answer_to(&sheet, line.as_slice()) {
-            let reply = Reply {
-                line: number,
-                answer,
-            };
-            println!(rt, "{reply}")?;
-        }
-    }
+    serve(rt, &sheet)?;
     Ok(())
 }
 

@@ -64,7 +64,13 @@ fn fields_in(line: &[u8]) -> Fields<'_>
     let (fibres, rest) = cut_word(rest);
     let (service, rest) = cut_word(rest);
     let (sixth, _) = cut_word(rest);
-    Fields { ordered, metres, fibres, service, sixth }
+    Fields {
+        ordered,
+        metres,
+        fibres,
+        service,
+        sixth,
+    }
 }
 
 // The order that the words after the first state.
@@ -79,7 +85,12 @@ fn order_in(line: &[u8]) -> Result<Order, Unreadable>
     let metres = number_named(fields.metres)?;
     let fibres = number_named(fields.fibres)?;
     let service = service_named(fields.service)?;
-    Ok(Order { ordered, service, metres, fibres })
+    Ok(Order {
+        ordered,
+        service,
+        metres,
+        fibres,
+    })
 }
 
 // What a line asks for: nothing if it is blank or begins with a number sign, else an order.

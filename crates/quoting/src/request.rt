@@ -45,7 +45,8 @@ impl Unreadable {
     {
         match self {
             Unreadable::UnknownWord => "the first word is neither link nor fibre",
-            Unreadable::WordCount => "an order is a word, the order date, metres, fibres and perhaps a service date",
+            Unreadable::WordCount =>
+                "an order is a word, the order date, metres, fibres and perhaps a service date",
             Unreadable::NoNumber => "dates, metres and fibres are numbers of one to nine digits",
         }
     }

@@ -16,7 +16,11 @@ const fn is_blank(byte: u8) -> bool
 const fn is_blank_as(byte: u8, blanks: bool) -> bool
     ensures value { λ r. ⌜ r ≡ blank-as blanks byte ⌝ }
 {
-    if blanks { is_blank(byte) } else { !is_blank(byte) }
+    if blanks {
+        is_blank(byte)
+    } else {
+        !is_blank(byte)
+    }
 }
 
 // How many bytes at the front are all blanks, or all none.

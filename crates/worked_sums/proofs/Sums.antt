@@ -1,0 +1,18 @@
+-- The definitions compute the sums worked by hand.
+use mathlib.Core.Path.{refl}
+use Rattle.tariff.specs.Row.{coefficient-after}
+use Rattle.worked_sums.specs.Sums.{Worked-sums}
+
+pub worked-sums : Worked-sums
+unfolding coefficient-after
+worked-sums = record {
+  months-0 = refl;
+  months-3 = refl;
+  months-18 = refl;
+  months-65 = refl;
+  months-239 = refl;
+  down = refl;
+  up = refl;
+  day-after-launch = refl;
+  year-after-launch = refl;
+}
