@@ -1,1 +1,4 @@
 pub mod Judging
+pub mod Order
+pub mod Halving
+pub mod Last
