@@ -2,3 +2,4 @@ pub mod Judging
 pub mod Order
 pub mod Halving
 pub mod Last
+pub mod Steady

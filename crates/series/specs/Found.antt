@@ -1,0 +1,40 @@
+-- A value that is found keeps the limits of its series: for sheets that have to show the limits of their own answers.
+--   Keeps       an answer is absent, or a value within its limits
+--   kept-found  so is every look-up in rows within their limits
+use mathlib.Core.Path.{_≡_}
+use mathlib.Core.Bool.{Bool, true, false, cond, _&&_}
+use mathlib.Core.List.{List, [], _∷_}
+use Prim.Native.Nat.{ℕ}
+use Rattle.std.specs.declared.option.Option.{Option}
+use Rattle.std.specs.declared.option.Option.the-variants.{Some, None}
+use Rattle.series.specs.declared.rows.Dated.{Dated}
+use Rattle.series.specs.Rows.{within-limits}
+use Rattle.series.specs.Lookups.{or-else, last-value}
+
+-- An answer keeps the limits if it is absent or a value within them.
+abbrev pub Keeps : {V : Type 0} → (V → Bool) → Option V → Type 0
+Keeps fits None = Unit {0}
+Keeps fits (Some v) = fits v ≡ true
+
+either-keeps : {V : Type 0} (fits : V → Bool) (o other : Option V) → Keeps fits o → Keeps fits other → Keeps fits (or-else o other)
+either-keeps fits None other h k = k
+either-keeps fits (Some v) other h k = h
+
+own-keeps : {V : Type 0} (fits : V → Bool) (passes : Bool) (v : V) → fits v ≡ true → Keeps fits (cond passes (Some v) None)
+own-keeps fits true v h = h
+own-keeps fits false v h = tt
+
+first-part : (a b : Bool) → (a && b) ≡ true → a ≡ true
+first-part true b h = cc
+first-part false b h = cc
+
+second-part : (a b : Bool) → (a && b) ≡ true → b ≡ true
+second-part true b h = h
+second-part false b h = cc
+
+pub kept-found : {V : Type 0} (fits : V → Bool) (passes : ℕ → Bool) (rows : List (Dated V)) → within-limits fits rows ≡ true → Keeps fits (last-value passes rows)
+kept-found fits passes [] h = tt
+kept-found fits passes (row ∷ rows) h =
+    either-keeps fits (last-value passes rows) (cond (passes (row .date)) (Some (row .value)) None)
+    (kept-found fits passes rows (second-part (fits (row .value)) (within-limits fits rows) h))
+    (own-keeps fits (passes (row .date)) (row .value) (first-part (fits (row .value)) (within-limits fits rows) h))
