@@ -1,6 +1,7 @@
--- A value that is found keeps the limits of its series: for sheets that have to show the limits of their own answers.
---   Keeps       an answer is absent, or a value within its limits
---   kept-found  so is every look-up in rows within their limits
+-- A value that is found keeps the limits that all values of its series keep.
+--   Keeps         an answer is absent, or a value within the limits
+--   Keeps-limits  whatever the rows keep, an answer keeps
+--   kept-found    every look-up does
 use mathlib.Core.Path.{_≡_}
 use mathlib.Core.Bool.{Bool, true, false, cond, _&&_}
 use mathlib.Core.List.{List, [], _∷_}
@@ -15,6 +16,10 @@ use Rattle.series.specs.Lookups.{or-else, last-value}
 abbrev pub Keeps : {V : Type 0} → (V → Bool) → Option V → Type 0
 Keeps fits None = Unit {0}
 Keeps fits (Some v) = fits v ≡ true
+
+-- Whatever limits every value of the rows keeps, the answer keeps.
+abbrev pub Keeps-limits : {V : Type 0} → List (Dated V) → Option V → Type 0
+Keeps-limits {V} rows answer = (fits : V → Bool) → within-limits fits rows ≡ true → Keeps fits answer
 
 either-keeps : {V : Type 0} (fits : V → Bool) (o other : Option V) → Keeps fits o → Keeps fits other → Keeps fits (or-else o other)
 either-keeps fits None other h k = k

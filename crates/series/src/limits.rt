@@ -20,7 +20,7 @@ const LEAST_INDEX: u32 = 1;
 const MOST_INDEX: u32 = 50_000;
 
 pub impl Limited for IndexNumber as IndexNumberLimited {
-    ghost fits = { λ n. index-fits (n .0) };
+    ghost fits = { index-fits };
 
     fn in_limits(&self) -> bool {
         LEAST_INDEX <= self.0 && self.0 <= MOST_INDEX

@@ -3,6 +3,7 @@ ghost use mathlib.Core.Path.{_≡_};
 ghost use Prim.Native.Nat.{_<_, _≤_};
 ghost use lib.ListN.{length};
 ghost use Rattle.std.specs.shelf.Lists.{Every};
+ghost use Rattle.series.specs.Found.{Keeps-limits};
 ghost use Rattle.series.specs.Laws.{Steady-on, Steady-before, Own-day-on, Own-day-before};
 ghost use Rattle.series.specs.Lent.{rows-of};
 ghost use Rattle.series.specs.Lookups.{in-force-on, in-force-before};
@@ -14,6 +15,7 @@ impl<'a, V: Copy> Series<'a, V> {
         ensures value { λ r. ⌜ r ≡ in-force-on (rows-of (now (self .entry))) day ⌝ }
         ensures steady { λ r. ⌜ Steady-on (rows-of (now (self .entry))) day r ⌝ }
         ensures own { λ r. ⌜ Own-day-on (rows-of (now (self .entry))) day r ⌝ }
+        ensures limits { λ r. ⌜ Keeps-limits (rows-of (now (self .entry))) r ⌝ }
     {
         self.last_on(day)
     }
@@ -23,6 +25,7 @@ impl<'a, V: Copy> Series<'a, V> {
         ensures value { λ r. ⌜ r ≡ in-force-before (rows-of (now (self .entry))) day ⌝ }
         ensures steady { λ r. ⌜ Steady-before (rows-of (now (self .entry))) day r ⌝ }
         ensures own { λ r. ⌜ Own-day-before (rows-of (now (self .entry))) day r ⌝ }
+        ensures limits { λ r. ⌜ Keeps-limits (rows-of (now (self .entry))) r ⌝ }
     {
         self.last_before(day)
     }
