@@ -1,17 +1,17 @@
 -- Judging rows one after another gives the same as judging them whole.
 use mathlib.Core.Path.{_≡_, refl, sym, ap, _∙_}
-use mathlib.Core.Bool.{Bool, true, false, cond, _&&_}
+use mathlib.Core.Bool.{Bool, true, false, _&&_}
 use mathlib.Core.List.{List, [], _∷_}
 use mathlib.Core.Logic.{⊎-elim}
-use Prim.Native.Nat.{ℕ, _+_, _/_, _≤_, _<_}
+use Prim.Native.Nat.{ℕ, _+_, _/_, _<_}
 use native.Mathlib.Omega.{arith}
-use lib.Dec.{leb, ltb}
+use lib.Dec.{ltb}
 use lib.ListN.{length, getD, drop}
 use Rattle.std.proofs.shelf.Lists.{at-drop-more}
-use Rattle.std.proofs.shelf.Tests.{cases-bool, and-parts, leb-true, lt-ltb, le-leb}
+use Rattle.std.proofs.shelf.Tests.{cases-bool, and-parts, leb-true, lt-ltb}
 use Rattle.calendar.specs.Days.{is-date}
 use Rattle.series.specs.declared.rows.Dated.{Dated}
-use Rattle.series.specs.Rows.{real, rising, within-limits, sound, may-follow, most-rows}
+use Rattle.series.specs.Rows.{real, rising, within-limits, may-follow}
 
 -- whether each row may come after the one before it, the first after a date
 abbrev pub goes-on : {V : Type 0} → (V → Bool) → ℕ → List (Dated V) → Bool
@@ -57,12 +57,9 @@ at-start w (row ∷ rows) =
     ∙ sym (ap (λ t. (t && real rows) && (rising (row ∷ rows) && w)) no′))
     (cases-bool (is-date (row .date)))
 
--- rows that are not too many make a series if each may follow, the first after 0
-pub sound-is : {V : Type 0} (fits : V → Bool) (rows : List (Dated V)) → length rows ≤ most-rows → goes-on fits 0 rows ≡ sound fits rows
-sound-is fits rows few =
-    by-parts fits 0 rows
-    ∙ at-start (within-limits fits rows) rows
-    ∙ sym (ap (λ t. t && (real rows && (rising rows && within-limits fits rows))) (le-leb (length rows) most-rows few))
+-- each row may follow, the first after 0, if the dates are real and rise and the values keep their limits
+pub goes-on-is : {V : Type 0} (fits : V → Bool) (rows : List (Dated V)) → goes-on fits 0 rows ≡ (real rows && (rising rows && within-limits fits rows))
+goes-on-is fits rows = by-parts fits 0 rows ∙ at-start (within-limits fits rows) rows
 
 -- the row at i, as it was read
 module _ {V : Type 0} (fits : V → Bool) (rows : List (Dated V)) (i : ℕ) (row : Dated V) (h : i < length rows) (read : row ≡ getD rows i row) (last : ℕ) where

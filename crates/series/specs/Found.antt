@@ -3,9 +3,10 @@
 --   Keeps-limits  whatever the rows keep, an answer keeps
 --   kept-found    every look-up does
 use mathlib.Core.Path.{_≡_}
-use mathlib.Core.Bool.{Bool, true, false, cond, _&&_}
+use mathlib.Core.Bool.{Bool, true, false, cond}
 use mathlib.Core.List.{List, [], _∷_}
 use Prim.Native.Nat.{ℕ}
+use Rattle.std.proofs.shelf.Tests.{and-parts}
 use Rattle.std.specs.declared.option.Option.{Option}
 use Rattle.std.specs.declared.option.Option.the-variants.{Some, None}
 use Rattle.series.specs.declared.rows.Dated.{Dated}
@@ -29,17 +30,9 @@ own-keeps : {V : Type 0} (fits : V → Bool) (passes : Bool) (v : V) → fits v 
 own-keeps fits true v h = h
 own-keeps fits false v h = tt
 
-first-part : (a b : Bool) → (a && b) ≡ true → a ≡ true
-first-part true b h = cc
-first-part false b h = cc
-
-second-part : (a b : Bool) → (a && b) ≡ true → b ≡ true
-second-part true b h = h
-second-part false b h = cc
-
 pub kept-found : {V : Type 0} (fits : V → Bool) (passes : ℕ → Bool) (rows : List (Dated V)) → within-limits fits rows ≡ true → Keeps fits (last-value passes rows)
 kept-found fits passes [] h = tt
 kept-found fits passes (row ∷ rows) h =
     either-keeps fits (last-value passes rows) (cond (passes (row .date)) (Some (row .value)) None)
-    (kept-found fits passes rows (second-part (fits (row .value)) (within-limits fits rows) h))
-    (own-keeps fits (passes (row .date)) (row .value) (first-part (fits (row .value)) (within-limits fits rows) h))
+    (kept-found fits passes rows (and-parts (fits (row .value)) (within-limits fits rows) h .1))
+    (own-keeps fits (passes (row .date)) (row .value) (and-parts (fits (row .value)) (within-limits fits rows) h .0))

@@ -1,10 +1,10 @@
 // Filling a series, which is the only place where rows are judged.
 ghost use mathlib.Core.Path.{_≡_};
-ghost use mathlib.Core.Bool.{true, false};
+ghost use mathlib.Core.Bool.{true, false, _&&_};
 ghost use mathlib.Core.List.{[]};
 ghost use Rattle.std.specs.Results.{Cases};
 ghost use Rattle.refusal.specs.declared.Refusal.the-variants.{BadSheet};
-ghost use Rattle.series.specs.Rows.{sound, may-follow};
+ghost use Rattle.series.specs.Rows.{real, rising, within-limits, sound, may-follow};
 ghost use Rattle.series.specs.Lent.{rows-of};
 use crate::lent::Series;
 use crate::limits::Limited;
@@ -41,9 +41,13 @@ impl<'a, V: Limited> Series<'a, V> {
 fn are_sound<V: Limited>(rows: &[Dated<V>]) -> bool
     ensures value { λ r. ⌜ r ≡ sound (V·Limited .fits) (now (rows .entry)) ⌝ }
 {
-    if rows.len() > MOST_ROWS {
-        return false;
-    }
+    rows.len() <= MOST_ROWS && all_follow(rows)
+}
+
+// Whether every row may come after the one above it. No day is numbered 0, so the first may come after 0.
+fn all_follow<V: Limited>(rows: &[Dated<V>]) -> bool
+    ensures value { λ r. ⌜ r ≡ (real (now (rows .entry)) && (rising (now (rows .entry)) && within-limits (V·Limited .fits) (now (rows .entry)))) ⌝ }
+{
     let mut last = 0;
     for row in rows {
         if !may_follow(last, row) {
