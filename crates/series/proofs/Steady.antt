@@ -1,5 +1,5 @@
 -- What a row says of the answer by its place among the others.
-use mathlib.Core.Path.{_≡_, refl, sym, ap, _∙_, subst}
+use mathlib.Core.Path.{_≡_, refl, sym, ap, _∙_}
 use mathlib.Core.Bool.{Bool, true, false, cond}
 use mathlib.Core.List.{List, [], _∷_, _++_}
 use Prim.Native.Nat.{ℕ, _≤_, _<_}
@@ -7,13 +7,14 @@ use native.Mathlib.Omega.{arith}
 use lib.Dec.{leb, ltb}
 use Rattle.std.specs.shelf.Lists.{All}
 use Rattle.std.proofs.shelf.Elements.{all-weaker}
-use Rattle.std.proofs.shelf.Tests.{and-parts, ltb-true, le-leb, lt-leb, lt-ltb, le-ltb}
+use Rattle.std.proofs.shelf.Tests.{le-leb, lt-leb, lt-ltb, le-ltb}
 use Rattle.std.specs.declared.option.Option.{Option}
 use Rattle.std.specs.declared.option.Option.the-variants.{Some, None}
 use Rattle.series.specs.declared.rows.Dated.{Dated}
 use Rattle.series.specs.Rows.{rising}
 use Rattle.series.specs.Lookups.{or-else, last-value, in-force-on, in-force-before}
 use Rattle.series.specs.Laws.{newest, Steady-on, Steady-before, Own-day-on, Own-day-before}
+use Rattle.series.proofs.Order.{head-rises, tail-rises}
 
 -- ---- answers of rows that are put together
 
@@ -32,13 +33,6 @@ last-append passes (row ∷ above) below =
     ∙ or-assoc (last-value passes below) (last-value passes above) (cond (passes (row .date)) (Some (row .value)) None)
 
 -- ---- dates that rise
-
-head-rises : {V : Type 0} (row next : Dated V) (rows : List (Dated V)) → rising (row ∷ (next ∷ rows)) ≡ true → row .date < next .date
-head-rises row next rows up = ltb-true (row .date) (next .date) (and-parts (ltb (row .date) (next .date)) (rising (next ∷ rows)) up .0)
-
-tail-rises : {V : Type 0} (row : Dated V) (rows : List (Dated V)) → rising (row ∷ rows) ≡ true → rising rows ≡ true
-tail-rises row [] up = refl
-tail-rises row (next ∷ rows) up = and-parts (ltb (row .date) (next .date)) (rising (next ∷ rows)) up .1
 
 below-rises : {V : Type 0} (above below : List (Dated V)) → rising (above ++ below) ≡ true → rising below ≡ true
 below-rises [] below up = up

@@ -3,6 +3,7 @@ ghost use mathlib.Core.Path.{_≡_};
 ghost use mathlib.Core.Bool.{true, false, _&&_};
 ghost use mathlib.Core.List.{[]};
 ghost use Rattle.std.specs.Results.{Cases};
+ghost use Rattle.std.specs.Vec.{made, refused};
 ghost use Rattle.refusal.specs.declared.Refusal.the-variants.{BadSheet};
 ghost use Rattle.series.specs.Rows.{real, rising, within-limits, sound, may-follow};
 ghost use Rattle.series.specs.Lent.{rows-of};
@@ -27,7 +28,8 @@ impl<'a, V: Limited> Series<'a, V> {
     // Takes the rows if they make a series; otherwise refuses and stays as it was.
     pub fn fill(&mut self, rows: &'a [Dated<V>]) -> Result<(), Refusal>
         ensures answer { λ r. ⌜ Cases r (λ _. sound (V·Limited .fits) (now (rows .entry)) ≡ true) (λ e. (e ≡ BadSheet) × (sound (V·Limited .fits) (now (rows .entry)) ≡ false)) ⌝ }
-        ensures value { λ r. ⌜ Cases r (λ _. rows-of (now (self .exit)) ≡ now (rows .entry)) (λ _. now (self .exit) ≡ now (self .entry)) ⌝ }
+        ensures value { λ r. ⌜ made r (λ _. rows-of (now (self .exit)) ≡ now (rows .entry)) ⌝ }
+        ensures kept { λ r. ⌜ refused r (λ _. now (self .exit) ≡ now (self .entry)) ⌝ }
     {
         if !are_sound(rows) {
             return Err(Refusal::BadSheet);

@@ -30,13 +30,14 @@ impl<'a, V: Copy> Series<'a, V> {
         self.last_before(day)
     }
 
-    // Dated up to a day is dated before the next number.
+    // Dated up to a day is dated below the next number.
     fn last_on(&self, day: u32) -> Option<V>
         ensures value { λ r. ⌜ r ≡ in-force-on (rows-of (now (self .entry))) day ⌝ }
     {
         self.last_below(u64::from(day) + 1)
     }
 
+    // Dated earlier than a day is dated below its number.
     fn last_before(&self, day: u32) -> Option<V>
         ensures value { λ r. ⌜ r ≡ in-force-before (rows-of (now (self .entry))) day ⌝ }
     {

@@ -1,4 +1,4 @@
-use mathlib.Core.Path.{_≡_, sym, _∙_}
+use mathlib.Core.Path.{sym, _∙_}
 use Rattle.std.proofs.shelf.Lists.{at-drop-all}
 use Rattle.series.proofs.Judging.{goes-on, goes-on-is, follows, stops}
 use Rattle.series.proofs.fill.all_follow.Needs as need
