@@ -41,6 +41,6 @@ fit-if-given (Some p) = prices-fit p
 abbrev pub no-terms : Terms
 no-terms = record { contribution = 0; weights = replicate 41 0 }
 
--- A sheet is made of prices and terms within their limits, and of no others.
-abbrev pub making : Prices → Terms → Result (Unit {0}) Refusal
-making prices terms = unless (first ((not (prices-fit prices && terms-fit terms) ⇒ BadSheet) ∷ [])) tt
+-- A sheet is made of what is within its limits, and of nothing else.
+abbrev pub making : Bool → Result (Unit {0}) Refusal
+making fits = unless (first ((not fits ⇒ BadSheet) ∷ [])) tt

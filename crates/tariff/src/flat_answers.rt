@@ -1,13 +1,16 @@
 // How the flat sheet is filled, and what it answers.
 ghost use mathlib.Core.Path.{_≡_};
+ghost use mathlib.Core.Bool.{_&&_};
 ghost use Rattle.std.specs.Results.{Cases};
 ghost use Rattle.std.specs.declared.option.Option.the-variants.{Some, None};
-ghost use Rattle.tariff.specs.Given.{no-terms, making};
+ghost use Rattle.tariff.specs.Given.{prices-fit, terms-fit, no-terms, making};
 ghost use Rattle.tariff.specs.Flat.{flat, flat-meaning};
 ghost use Rattle.tariff.specs.FlatLimits.{flat-lawful};
 use crate::flat::FlatSheet;
 use crate::given::Prices;
+use crate::given::PricesLimited;
 use crate::given::Terms;
+use crate::given::TermsLimited;
 use crate::given::weight_in;
 use crate::kinds::Coefficient;
 use crate::kinds::Kind;
@@ -16,6 +19,7 @@ use crate::row::coefficient_after;
 use crate::tariff::Tariff;
 use calendar::months_between;
 use refusal::Refusal;
+use series::Limited;
 
 impl FlatSheet {
     // A place for a sheet: until it is filled it has no price, levies no contribution and weighs nothing.
@@ -33,10 +37,10 @@ impl FlatSheet {
 
     // Fills the sheet with prices and terms, or refuses them and leaves it as it was.
     pub fn fill(&mut self, prices: Prices, terms: Terms) -> Result<(), Refusal>
-        ensures answer { λ r. ⌜ r ≡ making prices terms ⌝ }
+        ensures answer { λ r. ⌜ r ≡ making (prices-fit prices && terms-fit terms) ⌝ }
         ensures after { λ r. ⌜ Cases r (λ _. flat-meaning (now (self .exit)) ≡ flat (Some prices) terms) (λ _. now (self .exit) ≡ now (self .entry)) ⌝ }
     {
-        if !prices.fits() || !terms.fits() {
+        if !prices.in_limits() || !terms.in_limits() {
             return Err(Refusal::BadSheet);
         }
         *self = FlatSheet {

@@ -4,6 +4,7 @@ ghost use lib.ListN.{getD};
 ghost use Rattle.tariff.specs.Given.{price-of, price-fits, prices-fit, terms-fit};
 ghost use Rattle.tariff.specs.Most.{all-at-most};
 use crate::kinds::Kind;
+use series::Limited;
 
 // The dearest price per tranche and dwelling, in micro-euros.
 const MOST_PRICE: u32 = 500_000_000;
@@ -40,11 +41,13 @@ impl Prices {
             Kind::ThirdParty => self.third,
         }
     }
+}
 
-    // Whether each price is from 1 to 500,000,000 micro-euros.
-    pub const fn fits(&self) -> bool
-        ensures value { λ r. ⌜ r ≡ prices-fit (now (self .entry)) ⌝ }
-    {
+pub impl Limited for Prices as PricesLimited {
+    ghost fits = { prices-fit };
+
+    // Each price is from 1 to 500,000,000 micro-euros.
+    fn in_limits(&self) -> bool {
         price_fits(self.covered) && price_fits(self.connectable) && price_fits(self.third)
     }
 }
@@ -55,11 +58,11 @@ const fn price_fits(price: u32) -> bool
     1 <= price && price <= MOST_PRICE
 }
 
-impl Terms {
-    // Whether the contribution is at most 100 hundredths and each weight at most 200.
-    pub fn fits(&self) -> bool
-        ensures value { λ r. ⌜ r ≡ terms-fit (now (self .entry)) ⌝ }
-    {
+pub impl Limited for Terms as TermsLimited {
+    ghost fits = { terms-fit };
+
+    // The contribution is at most 100 hundredths, and each weight at most 200.
+    fn in_limits(&self) -> bool {
         self.contribution <= WHOLE && weights_fit(&self.weights)
     }
 }
