@@ -3,8 +3,10 @@ pub mod Rounding
 pub mod Row
 pub mod Given
 pub mod Flat
+pub mod DatedSheets
 pub mod Nearness
 pub mod Most
 pub mod RowLimits
 pub mod GivenLimits
 pub mod FlatLimits
+pub mod DatedLimits

@@ -28,10 +28,7 @@ impl FlatSheet {
     {
         FlatSheet {
             prices: None,
-            terms: Terms {
-                contribution: 0,
-                weights: [0; 41],
-            },
+            terms: Terms::NONE,
         }
     }
 

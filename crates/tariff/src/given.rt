@@ -30,6 +30,14 @@ pub struct Terms {
     pub weights: [u32; 41],
 }
 
+impl Terms {
+    // No contribution, and tranches that weigh nothing.
+    pub const NONE: Terms = Terms {
+        contribution: 0,
+        weights: [0; 41],
+    };
+}
+
 impl Prices {
     // The price of a kind.
     pub const fn of(&self, kind: Kind) -> u32

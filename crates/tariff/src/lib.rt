@@ -1,4 +1,6 @@
 // Price sheets, known to everything above them by five questions.
+pub mod dated;
+pub mod dated_answers;
 pub mod flat;
 pub mod flat_answers;
 pub mod given;
