@@ -4,6 +4,7 @@ pub mod Row
 pub mod Given
 pub mod Flat
 pub mod DatedSheets
+pub mod Network
 pub mod Nearness
 pub mod Most
 pub mod RowLimits

@@ -8,3 +8,4 @@ pub mod kinds;
 mod rounding;
 pub mod row;
 pub mod tariff;
+pub mod network;
