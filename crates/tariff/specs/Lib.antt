@@ -5,9 +5,12 @@ pub mod Given
 pub mod Flat
 pub mod DatedSheets
 pub mod Network
+pub mod Indexing
+pub mod IndexedSheets
 pub mod Nearness
 pub mod Most
 pub mod RowLimits
 pub mod GivenLimits
 pub mod FlatLimits
 pub mod DatedLimits
+pub mod IndexedLimits
