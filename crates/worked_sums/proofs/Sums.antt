@@ -13,6 +13,9 @@ worked-sums = record {
   months-239 = refl;
   down = refl;
   up = refl;
+  flat-sheet = refl;
+  dated-sheet = refl;
+  indexed-sheet = refl;
   day-after-launch = refl;
   year-after-launch = refl;
 }

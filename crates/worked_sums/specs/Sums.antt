@@ -1,13 +1,45 @@
 -- Sums worked by hand, as facts of the definitions.
 use mathlib.Core.Path.{_≡_}
+use mathlib.Core.List.{List, [], _∷_}
 use Prim.Native.Nat.{ℕ, _*_}
+use Rattle.std.specs.declared.option.Option.{Option}
+use Rattle.std.specs.declared.option.Option.the-variants.{Some, None}
 use Rattle.calendar.specs.Days.{index-of}
+use Rattle.series.specs.declared.rows.Dated.{Dated}
+use Rattle.series.specs.declared.limits.IndexNumber.{IndexNumber}
+use Rattle.tariff.specs.Meaning.{Meaning}
 use Rattle.tariff.specs.Rounding.{five-down, five-up}
 use Rattle.tariff.specs.Row.{coefficient-after}
+use Rattle.tariff.specs.Given.{no-terms}
+use Rattle.tariff.specs.Flat.{flat}
+use Rattle.tariff.specs.DatedSheets.{dated}
+use Rattle.tariff.specs.Network.{network-records}
+use Rattle.tariff.specs.IndexedSheets.{indexed}
+use Rattle.tariff.specs.declared.kinds.Kind.{Kind}
+use Rattle.tariff.specs.declared.kinds.Kind.the-variants.{Covered, Connectable, ThirdParty}
+use Rattle.tariff.specs.declared.kinds.Coefficient.{Coefficient}
+use Rattle.tariff.specs.declared.given.Prices.{Prices}
 
 -- The coefficient of the common row after a number of months is so many 1,200ths.
 abbrev pub in-1200ths : ℕ → ℕ → Type 0
 in-1200ths months n = coefficient-after months ≡ record { numerator = n; denominator = 1200 }
+
+abbrev pub scaled : Meaning → Option ℕ → Option Coefficient → Option ℕ
+scaled m None by = None
+scaled m (Some price) None = None
+scaled m (Some price) (Some by) = Some (m .rounded (price * by .numerator) (by .denominator))
+
+-- What a sheet makes of one tranche and dwelling: its price times its coefficient, rounded.
+abbrev pub one-tranche : Meaning → Kind → ℕ → ℕ → Option ℕ
+one-tranche m kind installed receipt = scaled m (m .price kind installed) (m .coefficient installed receipt)
+
+-- Prices of which only the connectable one is asked.
+abbrev pub connectable-at : ℕ → Prices
+connectable-at price = record { covered = 1; connectable = price; third = 1 }
+
+-- An index that stands at one number from the start of 2020, and at another from the start of 2021.
+abbrev pub risen : ℕ → ℕ → List (Dated IndexNumber)
+risen first second = record { date = 20200101; value = record { 0 = first } } ∷ record { date = 20210101; value = record { 0 = second } } ∷ []
 
 pub record Worked-sums : Type 0 where
   pub months-0 : in-1200ths 0 1200
@@ -18,6 +50,11 @@ pub record Worked-sums : Type 0 where
   -- 19.149661 euros after three months are 19.628402525
   pub down : five-down (19149661 * 1230) 1200 ≡ 19628402
   pub up : five-up (19149661 * 1230) 1200 ≡ 19628403
+  -- the same on a flat sheet, and on the network's dated one
+  pub flat-sheet : one-tranche (flat (Some (connectable-at 19149661)) no-terms) Connectable 20220901 20221231 ≡ Some 19628402
+  pub dated-sheet : one-tranche (dated network-records no-terms) Connectable 20220901 20221231 ≡ Some 19628403
+  -- 16.91 euros after 18 months, wages from 1000 to 1040, consumer prices from 1000 to 1020
+  pub indexed-sheet : one-tranche (indexed (Some (connectable-at 16910000)) no-terms (risen 1000 1040) (risen 1000 1020)) Connectable 20200115 20210720 ≡ Some 19662948
   -- a zone launched on 20170315
   pub day-after-launch : index-of 20170315 20170316 ≡ 1
   pub year-after-launch : index-of 20170315 20180101 ≡ 2
