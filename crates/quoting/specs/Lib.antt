@@ -1,3 +1,6 @@
 pub mod Words
-pub mod Requests
+pub mod LineTexts
+pub mod Fields
+pub mod Lines
 pub mod Replies
+pub mod Desks

@@ -2,11 +2,12 @@
 --   word        the longest run of bytes that are no blanks, after the blanks in front
 --   after-word  what follows it
 --   number      one to nine decimal digits
+--   amount      euros, a point and six decimals, in micro-euros
 use mathlib.Core.List.{List, [], _∷_}
 use mathlib.Core.Bool.{Bool, cond, not, _&&_, _||_}
-use Prim.Native.Nat.{ℕ, _+_, _-_, _*_}
-use lib.Dec.{leb, eqb}
-use lib.ListN.{length, take, drop}
+use Prim.Native.Nat.{ℕ, _+_, _-_, _*_, _^_}
+use lib.Dec.{ltb, eqb}
+use lib.ListN.{length, getD, take, drop}
 use Rattle.std.specs.Options.{isSome, valueOr}
 use Rattle.std.specs.shelf.Lists.{leading}
 use Rattle.std.specs.declared.option.Option.{Option}
@@ -43,3 +44,15 @@ read-on n (byte ∷ bytes) = cond (isSome (digit byte)) (read-on (n * 10 + value
 
 unfoldable pub number : List ℕ → Option ℕ
 number word = cond (within 1 (length word) 9) (read-on 0 word) None
+
+-- Euros, a point and six decimals, as micro-euros that 32 bits hold.
+abbrev pub micros : Option ℕ → Option ℕ → Option ℕ
+micros None decimals = None
+micros (Some euros) None = None
+micros (Some euros) (Some decimals) = cond (ltb (euros * 1000000 + decimals) (2 ^ 32)) (Some (euros * 1000000 + decimals)) None
+
+-- Seven bytes at the end: the point and the decimals.
+unfoldable pub amount : List ℕ → Option ℕ
+amount word =
+    let euros = length word - 7 in
+    cond (ltb 7 (length word) && eqb (getD word euros 0) 46) (micros (number (take euros word)) (number (drop (euros + 1) word))) None

@@ -1,112 +1,42 @@
-// What a line of text asks for.
+// What a line of text says.
 ghost use mathlib.Core.Path.{_≡_};
-ghost use Rattle.std.specs.shelf.Text.{sameBytes};
-ghost use Rattle.quoting.specs.Requests.{item-named, number-named, service-named, fields-shown, fields-in, order-in, comment, request-in};
-use crate::number::number_in;
-use crate::request::Item;
-use crate::request::Request;
-use crate::request::Unreadable;
+ghost use Rattle.quoting.specs.Fields.{fields-in};
+ghost use Rattle.quoting.specs.Lines.{keyword-named, asked, said-after, comment, line-in};
+use crate::fields::choice_in;
+use crate::fields::index_in;
+use crate::fields::is_text;
+use crate::fields::order_in;
+use crate::fields::record_in;
+use crate::line::Item;
+use crate::line::Line;
+use crate::line::Request;
+use crate::line::Unreadable;
 use crate::words::cut_word;
-use links::order::Order;
 
-// What a word orders.
-fn item_named(word: &[u8]) -> Result<Item, Unreadable>
-    ensures value { λ r. ⌜ r ≡ item-named (now (word .entry)) ⌝ }
-{
-    if is_text(word, b"link") {
-        Ok(Item::Link)
-    } else if is_text(word, b"fibre") {
-        Ok(Item::Fibre)
-    } else {
-        Err(Unreadable::UnknownWord)
-    }
+// What the first word of a line announces.
+#[derive(Clone, Copy)]
+enum Keyword {
+    Link,
+    Fibre,
+    Sheet,
+    Wages,
+    Consumer,
+    Price,
 }
 
-fn is_text(word: &[u8], text: &[u8]) -> bool
-    ensures value { λ r. ⌜ r ≡ sameBytes (now (word .entry)) (now (text .entry)) ⌝ }
+// What a line says: nothing if it is blank or begins with a number sign.
+pub fn line_in(bytes: &[u8]) -> Result<Line, Unreadable>
+    ensures value { λ r. ⌜ r ≡ line-in (now (bytes .entry)) ⌝ }
 {
-    word == text
-}
-
-// The number that a word writes.
-fn number_named(word: &[u8]) -> Result<u32, Unreadable>
-    ensures value { λ r. ⌜ r ≡ number-named (now (word .entry)) ⌝ }
-{
-    number_in(word).ok_or(Unreadable::NoNumber)
-}
-
-// The service date, which is not known where there is no word for it.
-fn service_named(word: &[u8]) -> Result<Option<u32>, Unreadable>
-    ensures value { λ r. ⌜ r ≡ service-named (now (word .entry)) ⌝ }
-{
-    if word.is_empty() {
-        return Ok(None);
-    }
-    let service = number_named(word)?;
-    Ok(Some(service))
-}
-
-// The words of an order after its first, those that the line leaves out being empty.
-#[derive(Drop)]
-struct Fields<'a> {
-    ordered: &'a [u8],
-    metres: &'a [u8],
-    fibres: &'a [u8],
-    service: &'a [u8],
-    sixth: &'a [u8],
-}
-
-fn fields_in(line: &[u8]) -> Fields<'_>
-    ensures value { λ r. ⌜ fields-shown (now (r .ordered)) (now (r .metres)) (now (r .fibres)) (now (r .service)) (now (r .sixth)) ≡ fields-in (now (line .entry)) ⌝ }
-{
-    let (ordered, rest) = cut_word(line);
-    let (metres, rest) = cut_word(rest);
-    let (fibres, rest) = cut_word(rest);
-    let (service, rest) = cut_word(rest);
-    let (sixth, _) = cut_word(rest);
-    Fields {
-        ordered,
-        metres,
-        fibres,
-        service,
-        sixth,
-    }
-}
-
-// The order that the words after the first state.
-fn order_in(line: &[u8]) -> Result<Order, Unreadable>
-    ensures value { λ r. ⌜ r ≡ order-in (fields-in (now (line .entry))) ⌝ }
-{
-    let fields = fields_in(line);
-    if fields.fibres.is_empty() || !fields.sixth.is_empty() {
-        return Err(Unreadable::WordCount);
-    }
-    let ordered = number_named(fields.ordered)?;
-    let metres = number_named(fields.metres)?;
-    let fibres = number_named(fields.fibres)?;
-    let service = service_named(fields.service)?;
-    Ok(Order {
-        ordered,
-        service,
-        metres,
-        fibres,
-    })
-}
-
-// What a line asks for: nothing if it is blank or begins with a number sign, else an order.
-pub fn request_in(line: &[u8]) -> Result<Option<Request>, Unreadable>
-    ensures value { λ r. ⌜ r ≡ request-in (now (line .entry)) ⌝ }
-{
-    let (first, rest) = cut_word(line);
+    let (first, rest) = cut_word(bytes);
     if is_comment(first) {
-        return Ok(None);
+        return Ok(Line::Nothing);
     }
-    let item = item_named(first)?;
-    let order = order_in(rest)?;
-    Ok(Some(Request { item, order }))
+    let announced = keyword_named(first)?;
+    said_after(announced, rest)
 }
 
-// Whether a first word leaves a line without an order: there is none, or it begins with a number sign.
+// Whether a first word leaves a line without content: there is none, or it begins with a number sign.
 fn is_comment(first: &[u8]) -> bool
     ensures value { λ r. ⌜ r ≡ comment (now (first .entry)) ⌝ }
 {
@@ -114,4 +44,45 @@ fn is_comment(first: &[u8]) -> bool
         [] | [b'#', ..] => true,
         _ => false,
     }
+}
+
+fn keyword_named(word: &[u8]) -> Result<Keyword, Unreadable>
+    ensures value { λ r. ⌜ r ≡ keyword-named (now (word .entry)) ⌝ }
+{
+    if is_text(word, b"link") {
+        Ok(Keyword::Link)
+    } else if is_text(word, b"fibre") {
+        Ok(Keyword::Fibre)
+    } else if is_text(word, b"sheet") {
+        Ok(Keyword::Sheet)
+    } else if is_text(word, b"wages") {
+        Ok(Keyword::Wages)
+    } else if is_text(word, b"consumer") {
+        Ok(Keyword::Consumer)
+    } else if is_text(word, b"price") {
+        Ok(Keyword::Price)
+    } else {
+        Err(Unreadable::UnknownWord)
+    }
+}
+
+// What the words after a keyword say.
+fn said_after(announced: Keyword, rest: &[u8]) -> Result<Line, Unreadable>
+    ensures value { λ r. ⌜ r ≡ said-after announced (fields-in (now (rest .entry))) ⌝ }
+{
+    match announced {
+        Keyword::Link => Ok(Line::Asks(asked(Item::Link, rest)?)),
+        Keyword::Fibre => Ok(Line::Asks(asked(Item::Fibre, rest)?)),
+        Keyword::Sheet => Ok(Line::Chooses(choice_in(rest)?)),
+        Keyword::Wages => Ok(Line::Wages(index_in(rest)?)),
+        Keyword::Consumer => Ok(Line::Consumer(index_in(rest)?)),
+        Keyword::Price => Ok(Line::Record(record_in(rest)?)),
+    }
+}
+
+fn asked(item: Item, rest: &[u8]) -> Result<Request, Unreadable>
+    ensures value { λ r. ⌜ r ≡ asked item (fields-in (now (rest .entry))) ⌝ }
+{
+    let order = order_in(rest)?;
+    Ok(Request { item, order })
 }

@@ -1,7 +1,7 @@
 use Rattle.std.proofs.shelf.Equals.{matches-decides, sameBytes-decides}
 use Rattle.std.proofs.shelf.Ways.{same-from-decides}
 use Rattle.std.specs.shelf.Text.{sameBytes}
-use Rattle.quoting.proofs.read.is_text.Needs as need
+use Rattle.quoting.proofs.fields.is_text.Needs as need
 
 pub returns : need.returns
 returns c =

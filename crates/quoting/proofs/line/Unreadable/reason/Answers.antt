@@ -1,6 +1,6 @@
 use mathlib.Core.Path.{sym, ap}
-use Rattle.quoting.specs.Requests.{reason-text}
-use Rattle.quoting.proofs.request.Unreadable.reason.Needs as need
+use Rattle.quoting.specs.LineTexts.{reason-text}
+use Rattle.quoting.proofs.line.Unreadable.reason.Needs as need
 
 pub returns-in-UnknownWord : need.returns-in-UnknownWord
 returns-in-UnknownWord c = record { value = sym (ap reason-text (c .in-UnknownWord .is)) }
@@ -10,3 +10,9 @@ returns-in-WordCount c = record { value = sym (ap reason-text (c .in-WordCount .
 
 pub returns-in-NoNumber : need.returns-in-NoNumber
 returns-in-NoNumber c = record { value = sym (ap reason-text (c .in-NoNumber .is)) }
+
+pub returns-in-NoAmount : need.returns-in-NoAmount
+returns-in-NoAmount c = record { value = sym (ap reason-text (c .in-NoAmount .is)) }
+
+pub returns-in-UnknownSheet : need.returns-in-UnknownSheet
+returns-in-UnknownSheet c = record { value = sym (ap reason-text (c .in-UnknownSheet .is)) }
