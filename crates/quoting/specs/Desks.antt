@@ -118,3 +118,13 @@ after-reading s (Err reason) = s
 
 abbrev pub after : State → List ℕ → State
 after s bytes = after-reading s (line-in bytes)
+
+-- A line that adds a row to a series, which wants memory.
+abbrev pub Adds-row : Result Line Unreadable → Type 0
+Adds-row (Ok line.Nothing) = ⊥
+Adds-row (Ok (line.Asks request)) = ⊥
+Adds-row (Ok (line.Chooses sheet)) = ⊥
+Adds-row (Ok (line.Wages row)) = Unit {0}
+Adds-row (Ok (line.Consumer row)) = Unit {0}
+Adds-row (Ok (line.Record row)) = Unit {0}
+Adds-row (Err reason) = ⊥

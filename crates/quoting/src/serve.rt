@@ -1,7 +1,11 @@
 // How a desk answers a line.
 ghost use mathlib.Core.Path.{_≡_};
+ghost use mathlib.Core.Bool.{true};
+ghost use Rattle.std.specs.Options.{isSome};
+ghost use Rattle.std.specs.Results.{Cases};
 ghost use Rattle.std.specs.Vec.{made};
-ghost use Rattle.quoting.specs.Desks.{shown, opening, priced, on-flat, on-indexed, on-dated, quotation-on, answer-of, answer-to, after};
+ghost use Rattle.quoting.specs.Lines.{line-in};
+ghost use Rattle.quoting.specs.Desks.{shown, opening, priced, on-flat, on-indexed, on-dated, quotation-on, answer-of, answer-to, after, Adds-row};
 use crate::desk::Desk;
 use crate::line::Choice;
 use crate::line::Item;
@@ -53,10 +57,12 @@ impl Desk {
         }
     }
 
-    // Reads a line and answers it, if it asks for something or cannot be read.
+    // Reads a line and answers it, if it asks for something or cannot be read. Such a line changes nothing. Only a row that
+    // finds no memory is turned down, and then nothing changes either.
     pub fn take(&mut self, bytes: &[u8]) -> Result<Option<Answer>, AllocError>
         ensures answer { λ r. ⌜ made r (λ a. a ≡ answer-to (shown (now (self .entry))) (now (bytes .entry))) ⌝ }
         ensures after { λ r. ⌜ made r (λ _. shown (now (self .exit)) ≡ after (shown (now (self .entry))) (now (bytes .entry))) ⌝ }
+        ensures kept { λ r. ⌜ Cases r (λ a. isSome a ≡ true → shown (now (self .exit)) ≡ shown (now (self .entry))) (λ _. (shown (now (self .exit)) ≡ shown (now (self .entry))) × Adds-row (line-in (now (bytes .entry)))) ⌝ }
     {
         match line_in(bytes) {
             Ok(Line::Nothing) => Ok(None),
