@@ -48,7 +48,7 @@ pub impl fmt::Display for Quotation as QuotationDisplay {
 
     fn fmt<W: fmt::Write>(&self, f: &mut fmt::Formatter<W>) -> fmt::Result {
         let basis = self.basis;
-        let price = Money(self.price);
+        let price = Money::from_micros(self.price);
         write!(f, "{basis} PRICE {price}")
     }
 }
