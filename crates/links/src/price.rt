@@ -14,6 +14,7 @@ use crate::tables::reference_price;
 use crate::tables::row_of;
 use calendar::is_date;
 use refusal::Refusal;
+use tariff::quotient::Quotient;
 use tariff::tariff::Tariff;
 
 // The price of a link, or why there is none.
@@ -104,9 +105,9 @@ fn price_on<T: Tariff>(sheet: &T, basis: Basis, first: u64, reference: u64) -> u
 {
     match basis {
         Basis::AbInitio => first,
-        Basis::ExPost(coefficient) => sheet.rounded(
-            reference * u64::from(coefficient.numerator),
-            coefficient.denominator,
-        ),
+        Basis::ExPost(coefficient) => sheet.rounded(Quotient {
+            numerator: reference * u64::from(coefficient.numerator),
+            denominator: coefficient.denominator,
+        }),
     }
 }

@@ -19,25 +19,25 @@ use Rattle.series.specs.Rows.{sound}
 use Rattle.series.specs.declared.rows.Dated.{Dated}
 use Rattle.series.specs.declared.limits.IndexNumber.{IndexNumber}
 use Rattle.tariff.specs.Meaning.{Meaning}
-use Rattle.tariff.specs.Given.{prices-fit, terms-fit, making}
-use Rattle.tariff.specs.Flat.{flat}
-use Rattle.tariff.specs.IndexedSheets.{indexed}
-use Rattle.tariff.specs.DatedSheets.{dated}
-use Rattle.tariff.specs.declared.given.Prices.{Prices}
-use Rattle.tariff.specs.declared.given.Terms.{Terms}
+use Rattle.sheet_parts.specs.Given.{prices-fit, terms-fit, making}
+use Rattle.sheets.specs.Flat.{flat}
+use Rattle.sheets.specs.IndexedSheets.{indexed}
+use Rattle.sheets.specs.DatedSheets.{dated}
+use Rattle.sheet_parts.specs.declared.given.Prices.{Prices}
+use Rattle.sheet_parts.specs.declared.given.Terms.{Terms}
 use Rattle.links.specs.Quotations.{link-quotation, fibre-quotation}
 use Rattle.links.specs.declared.order.Order.{Order}
 use Rattle.links.specs.declared.order.Quotation.{Quotation}
-use Rattle.quoting.specs.Fields.{then-do}
-use Rattle.quoting.specs.Lines.{line-in}
-use Rattle.quoting.specs.declared.line.Item.{Item}
-use Rattle.quoting.specs.declared.line.Item.the-variants.{Link, Fibre}
-use Rattle.quoting.specs.declared.line.Request.{Request}
-use Rattle.quoting.specs.declared.line.Choice.{Choice}
-use Rattle.quoting.specs.declared.line.Choice.the-variants as choice
-use Rattle.quoting.specs.declared.line.Line.{Line}
-use Rattle.quoting.specs.declared.line.Line.the-variants as line
-use Rattle.quoting.specs.declared.line.Unreadable.{Unreadable}
+use Rattle.quote_lines.specs.Fields.{then-do}
+use Rattle.quote_lines.specs.Lines.{line-in}
+use Rattle.quote_lines.specs.declared.line.Item.{Item}
+use Rattle.quote_lines.specs.declared.line.Item.the-variants.{Link, Fibre}
+use Rattle.quote_lines.specs.declared.line.Request.{Request}
+use Rattle.quote_lines.specs.declared.line.Choice.{Choice}
+use Rattle.quote_lines.specs.declared.line.Choice.the-variants as choice
+use Rattle.quote_lines.specs.declared.line.Line.{Line}
+use Rattle.quote_lines.specs.declared.line.Line.the-variants as line
+use Rattle.quote_lines.specs.declared.line.Unreadable.{Unreadable}
 use Rattle.quoting.specs.declared.reply.Answer.{Answer}
 use Rattle.quoting.specs.declared.reply.Answer.the-variants.{Priced, Refused, Unread}
 use Rattle.quoting.specs.declared.desk.Desk.{Desk}

@@ -1,6 +1,2 @@
-pub mod Words
-pub mod LineTexts
-pub mod Fields
-pub mod Lines
 pub mod Replies
 pub mod Desks

@@ -6,8 +6,8 @@ use Rattle.std.specs.Written.{decimal}
 use Rattle.refusal.specs.Numbers.{number-of}
 use Rattle.refusal.specs.Sentences.{sentence-of}
 use Rattle.links.specs.Texts.{order-text, quotation-text}
-use Rattle.quoting.specs.LineTexts.{item-text, reason-text}
-use Rattle.quoting.specs.declared.line.Request.{Request}
+use Rattle.quote_lines.specs.LineTexts.{item-text, reason-text}
+use Rattle.quote_lines.specs.declared.line.Request.{Request}
 use Rattle.quoting.specs.declared.reply.Answer.{Answer}
 use Rattle.quoting.specs.declared.reply.Answer.the-variants.{Priced, Refused, Unread}
 use Rattle.quoting.specs.declared.reply.Reply.{Reply}

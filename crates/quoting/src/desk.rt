@@ -1,8 +1,8 @@
 // The desk that orders are brought to: the sheet chosen, and the series read so far.
-use crate::line::Choice;
+use quote_lines::line::Choice;
 use series::Dated;
 use series::IndexNumber;
-use tariff::given::Prices;
+use sheet_parts::given::Prices;
 
 #[derive(Drop)]
 pub struct Desk {

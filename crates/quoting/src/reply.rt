@@ -1,13 +1,13 @@
 // The answer to a line, and its text.
 ghost use Rattle.std.specs.declared.option.Option.the-variants.{Some};
 ghost use Rattle.quoting.specs.Replies.{reply-text};
-use crate::line::ItemDisplay;
-use crate::line::Request;
-use crate::line::Unreadable;
-use crate::line::UnreadableDisplay;
 use links::order::Quotation;
 use links::text::OrderDisplay;
 use links::text::QuotationDisplay;
+use quote_lines::line::ItemDisplay;
+use quote_lines::line::Request;
+use quote_lines::line::Unreadable;
+use quote_lines::line::UnreadableDisplay;
 use refusal::Refusal;
 use refusal::RefusalDisplay;
 use std::fmt;

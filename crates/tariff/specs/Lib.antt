@@ -1,16 +1,2 @@
 pub mod Meaning
-pub mod Rounding
-pub mod Row
-pub mod Given
-pub mod Flat
-pub mod DatedSheets
-pub mod Network
-pub mod Indexing
-pub mod IndexedSheets
-pub mod Nearness
 pub mod Most
-pub mod RowLimits
-pub mod GivenLimits
-pub mod FlatLimits
-pub mod DatedLimits
-pub mod IndexedLimits

@@ -1,9 +1,9 @@
 // The five questions that a price sheet answers, and all that the layers above know of one.
 ghost use mathlib.Core.Path.{_≡_};
-ghost use Prim.Native.Nat.{_<_, _≤_};
 ghost use Rattle.tariff.specs.Meaning.{Meaning, Lawful};
 use crate::kinds::Coefficient;
 use crate::kinds::Kind;
+use crate::quotient::Quotient;
 
 pub trait Tariff {
     // What a sheet means: all its answers, in one fixed value.
@@ -29,9 +29,6 @@ pub trait Tariff {
         ensures value { λ r. ⌜ r ≡ meaning (now (self .entry)) .weight index ⌝ };
 
     // A fraction of micro-euros as a whole number of them.
-    fn rounded(&self, numerator: u64, denominator: u32) -> u64
-        requires most { ⌜ numerator ≤ 9000000000000000000 ⌝ }
-        requires some { ⌜ 0 < denominator ⌝ }
-        requires small { ⌜ denominator ≤ 240000000 ⌝ }
-        ensures value { λ r. ⌜ r ≡ meaning (now (self .entry)) .rounded numerator denominator ⌝ };
+    fn rounded(&self, amount: Quotient) -> u64
+        ensures value { λ r. ⌜ r ≡ meaning (now (self .entry)) .rounded (amount .numerator) (amount .denominator) ⌝ };
 }

@@ -1,6 +1,6 @@
 -- The definitions compute the sums worked by hand.
 use mathlib.Core.Path.{refl}
-use Rattle.tariff.specs.Row.{coefficient-after}
+use Rattle.sheet_parts.specs.Row.{coefficient-after}
 use Rattle.worked_sums.specs.Sums.{Worked-sums}
 
 pub worked-sums : Worked-sums

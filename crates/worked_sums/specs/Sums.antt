@@ -8,17 +8,17 @@ use Rattle.calendar.specs.Days.{index-of}
 use Rattle.series.specs.declared.rows.Dated.{Dated}
 use Rattle.series.specs.declared.limits.IndexNumber.{IndexNumber}
 use Rattle.tariff.specs.Meaning.{Meaning}
-use Rattle.tariff.specs.Rounding.{five-down, five-up}
-use Rattle.tariff.specs.Row.{coefficient-after}
-use Rattle.tariff.specs.Given.{no-terms}
-use Rattle.tariff.specs.Flat.{flat}
-use Rattle.tariff.specs.DatedSheets.{dated}
-use Rattle.tariff.specs.Network.{network-records}
-use Rattle.tariff.specs.IndexedSheets.{indexed}
+use Rattle.sheet_parts.specs.Rounding.{five-down, five-up}
+use Rattle.sheet_parts.specs.Row.{coefficient-after}
+use Rattle.sheet_parts.specs.Given.{no-terms}
+use Rattle.sheets.specs.Flat.{flat}
+use Rattle.sheets.specs.DatedSheets.{dated}
+use Rattle.sheets.specs.Network.{network-records}
+use Rattle.sheets.specs.IndexedSheets.{indexed}
 use Rattle.tariff.specs.declared.kinds.Kind.{Kind}
 use Rattle.tariff.specs.declared.kinds.Kind.the-variants.{Covered, Connectable, ThirdParty}
 use Rattle.tariff.specs.declared.kinds.Coefficient.{Coefficient}
-use Rattle.tariff.specs.declared.given.Prices.{Prices}
+use Rattle.sheet_parts.specs.declared.given.Prices.{Prices}
 
 -- The coefficient of the common row after a number of months is so many 1,200ths.
 abbrev pub in-1200ths : ℕ → ℕ → Type 0

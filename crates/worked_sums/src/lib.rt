@@ -3,7 +3,7 @@ ghost use mathlib.Core.Path.{_≡_};
 ghost use mathlib.Core.List.{[], _∷_};
 ghost use Rattle.worked_sums.specs.Sums.{Worked-sums};
 use calendar::year_index;
-use tariff::row::coefficient_after;
+use sheet_parts::row::coefficient_after;
 
 // The coefficients of some months, over 1,200, and the year indices of two dates after a launch on 20170315.
 #[derive(Clone, Copy)]

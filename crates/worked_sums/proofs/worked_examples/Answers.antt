@@ -1,5 +1,5 @@
 use borrow.Author.Needs.{needs}
-use Rattle.tariff.specs.Row.{coefficient-after}
+use Rattle.sheet_parts.specs.Row.{coefficient-after}
 use Rattle.worked_sums.proofs.Sums.{worked-sums}
 use Rattle.worked_sums.proofs.worked_examples.Needs as need
 

@@ -2,7 +2,7 @@ use mathlib.Core.Path.{_≡_, ap, _∙_}
 use mathlib.Core.Bool.{_&&_}
 use Rattle.series.specs.Limits.{index-fits}
 use Rattle.series.specs.Rows.{sound}
-use Rattle.tariff.specs.Given.{prices-fit, terms-fit, making}
+use Rattle.sheet_parts.specs.Given.{prices-fit, terms-fit, making}
 use Rattle.quoting.specs.Desks.{desk-prices, desk-terms, priced}
 use Rattle.quoting.proofs.Making.{made-of}
 use Rattle.quoting.proofs.serve.on_indexed.Needs as need

@@ -1,0 +1,4 @@
+pub mod Words
+pub mod LineTexts
+pub mod Fields
+pub mod Lines

@@ -1,2 +1,0 @@
-pub mod Interpolation
-pub mod RowTimesRatio
