@@ -1,0 +1,4 @@
+pub mod Remainders
+pub mod Passing
+pub mod Cuts
+pub mod Each

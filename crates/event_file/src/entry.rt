@@ -1,0 +1,190 @@
+// An entry taken apart: one letter, three numbers, a form byte and a label.
+ghost use mathlib.Core.Path.{_≡_};
+ghost use mathlib.Core.Bool.{true, false};
+ghost use Prim.Native.Nat.{_+_, _*_, _<_, _≤_};
+ghost use lib.ListN.{length};
+ghost use Rattle.std.specs.Options.{Cases as BySome};
+ghost use Rattle.std.specs.Results.{Cases};
+ghost use Rattle.std.specs.declared.option.Option.the-variants.{Some};
+ghost use Rattle.event_file.specs.Format.{label-stands, printable};
+ghost use Rattle.event_file.specs.Entries.{FieldsOf, bad-content, event-letter, event-of, event-refusal, filled-in-vain, is-blank, most-form, shown-answer, shown-event, told};
+use crate::event::Entry;
+use crate::event::Event;
+use refusal::Refusal;
+
+pub const ENTRY_BYTES: usize = 30;
+
+const LABEL_BYTES: usize = 16;
+
+// The parts of an entry with an event's letter, before they are given a meaning.
+#[derive(Clone, Copy)]
+struct Fields<'a> {
+    letter: char,
+    date: u32,
+    number: u32,
+    amount: u32,
+    form: u8,
+    label: &'a [u8],
+}
+
+// A number of 32 bits, high byte first.
+const fn number_of(a: u8, b: u8, c: u8, d: u8) -> u32
+    ensures value { λ r. ⌜ r ≡ a * 16777216 + b * 65536 + c * 256 + d ⌝ }
+{
+    a as u32 * 16777216 + b as u32 * 65536 + c as u32 * 256 + d as u32
+}
+
+// The parts of an entry, if it is long enough for all but the label.
+fn split(bytes: &[u8]) -> Option<Fields<'_>>
+    ensures answer { λ r. ⌜ BySome r (length (now (bytes .entry)) < 14) (λ f. (14 ≤ length (now (bytes .entry))) × FieldsOf (now (bytes .entry)) f) ⌝ }
+{
+    let [letter, d0, d1, d2, d3, rest @ ..] = bytes else {
+        return None;
+    };
+    let [n0, n1, n2, n3, a0, a1, a2, a3, form, label @ ..] = rest else {
+        return None;
+    };
+    Some(Fields {
+        letter: char::from(*letter),
+        date: number_of(*d0, *d1, *d2, *d3),
+        number: number_of(*n0, *n1, *n2, *n3),
+        amount: number_of(*a0, *a1, *a2, *a3),
+        form: *form,
+        label,
+    })
+}
+
+// Whether a byte prints as a character.
+const fn prints(byte: u8) -> bool
+    ensures value { λ r. ⌜ r ≡ printable byte ⌝ }
+{
+    32 <= byte && byte <= 126
+}
+
+// Whether bytes can be a label: sixteen of them, each from 32 to 126.
+fn label_stands(label: &[u8]) -> bool
+    ensures value { λ r. ⌜ r ≡ label-stands (now (label .entry)) ⌝ }
+{
+    if label.len() != LABEL_BYTES {
+        return false;
+    }
+    for byte in label {
+        if !prints(*byte) {
+            return false;
+        }
+    }
+    true
+}
+
+// Whether an entry is a blank: thirty bytes, all zero.
+pub fn is_blank(bytes: &[u8]) -> bool
+    ensures value { λ r. ⌜ r ≡ is-blank (now (bytes .entry)) ⌝ }
+{
+    if bytes.len() != ENTRY_BYTES {
+        return false;
+    }
+    for byte in bytes {
+        if *byte != 0 {
+            return false;
+        }
+    }
+    true
+}
+
+// The largest form of a letter: only a site may be cabled by a third party.
+const fn most_form(letter: char) -> u8
+    ensures value { λ r. ⌜ r ≡ most-form letter ⌝ }
+{
+    match letter {
+        'S' => 1,
+        _ => 0,
+    }
+}
+
+// Whether a launch says more than its date.
+const fn filled_in_vain(letter: char, number: u32, amount: u32) -> bool
+    ensures value { λ r. ⌜ r ≡ filled-in-vain letter number amount ⌝ }
+{
+    letter == 'L' && (number != 0 || amount != 0)
+}
+
+// The parts of an entry with an event's letter, once it is known that it may stand where it does.
+fn checked_fields(bytes: &[u8], after_blank: bool) -> Result<Fields<'_>, Refusal>
+    ensures answer { λ r. ⌜ Cases r (λ f. FieldsOf (now (bytes .entry)) f × («after_blank» ≡ false) × (bad-content (now (bytes .entry)) ≡ false)) (λ x. Some x ≡ event-refusal «after_blank» (now (bytes .entry))) ⌝ }
+{
+    if after_blank {
+        return Err(Refusal::BlankRuleBroken);
+    }
+    let Some(fields) = split(bytes) else {
+        return Err(Refusal::BadEntryContent);
+    };
+    if fields.form > most_form(fields.letter)
+        || filled_in_vain(fields.letter, fields.number, fields.amount)
+        || !label_stands(fields.label)
+    {
+        return Err(Refusal::BadEntryContent);
+    }
+    Ok(fields)
+}
+
+// The event that the fields mean.
+fn event_of(fields: Fields<'_>) -> Event<'_>
+    requires { ⌜ event-letter (fields .letter) ≡ true ⌝ }
+    ensures value { λ r. ⌜ shown-event r ≡ event-of (fields .entry .letter) (fields .entry .date) (fields .entry .number) (fields .entry .amount) (fields .entry .form) (now (fields .entry .label)) ⌝ }
+{
+    let Fields {
+        letter,
+        date,
+        number,
+        amount,
+        form,
+        label,
+    } = fields;
+    match letter {
+        'E' => Event::Commitment {
+            date,
+            operator: number,
+            rate: amount,
+            label,
+        },
+        'A' => Event::Raise {
+            date,
+            operator: number,
+            rate: amount,
+            label,
+        },
+        'P' => Event::Opening {
+            date,
+            object: number,
+            dwellings: amount,
+            label,
+        },
+        'S' => Event::Cabling {
+            date,
+            object: number,
+            dwellings: amount,
+            third_party: form == 1,
+            label,
+        },
+        'L' => Event::Launch { date, label },
+        _ => unreachable(),
+    }
+}
+
+// What an entry tells, where a blank stands before it in its block or not.
+pub fn read_entry(bytes: &[u8], after_blank: bool) -> Result<Entry<'_>, Refusal>
+    ensures answer { λ r. ⌜ shown-answer r ≡ told «after_blank» (now (bytes .entry)) ⌝ }
+{
+    let [letter, ..] = bytes else {
+        return Err(Refusal::BlankRuleBroken);
+    };
+    match char::from(*letter) {
+        '\0' if is_blank(bytes) => Ok(Entry::Blank),
+        '\0' => Err(Refusal::BlankRuleBroken),
+        'E' | 'A' | 'P' | 'S' | 'L' => {
+            let fields = checked_fields(bytes, after_blank)?;
+            Ok(Entry::Event(event_of(fields)))
+        }
+        _ => Err(Refusal::UnknownLetter),
+    }
+}
