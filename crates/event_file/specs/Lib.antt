@@ -2,3 +2,4 @@ pub mod Bytes
 pub mod Blocks
 pub mod Format
 pub mod Entries
+pub mod Reading

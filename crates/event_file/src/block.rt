@@ -7,6 +7,8 @@ use refusal::Refusal;
 
 pub const BLOCK_BYTES: usize = 512;
 
+pub const BLOCK_ENTRIES: usize = 17;
+
 // The longest file: 128 blocks.
 pub const MOST_BYTES: usize = 65536;
 

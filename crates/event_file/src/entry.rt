@@ -132,38 +132,31 @@ fn event_of(fields: Fields<'_>) -> Event<'_>
     requires { ⌜ event-letter (fields .letter) ≡ true ⌝ }
     ensures value { λ r. ⌜ shown-event r ≡ event-of (fields .entry .letter) (fields .entry .date) (fields .entry .number) (fields .entry .amount) (fields .entry .form) (now (fields .entry .label)) ⌝ }
 {
-    let Fields {
-        letter,
-        date,
-        number,
-        amount,
-        form,
-        label,
-    } = fields;
-    match letter {
+    let (date, label) = (fields.date, fields.label);
+    match fields.letter {
         'E' => Event::Commitment {
             date,
-            operator: number,
-            rate: amount,
+            operator: fields.number,
+            rate: fields.amount,
             label,
         },
         'A' => Event::Raise {
             date,
-            operator: number,
-            rate: amount,
+            operator: fields.number,
+            rate: fields.amount,
             label,
         },
         'P' => Event::Opening {
             date,
-            object: number,
-            dwellings: amount,
+            object: fields.number,
+            dwellings: fields.amount,
             label,
         },
         'S' => Event::Cabling {
             date,
-            object: number,
-            dwellings: amount,
-            third_party: form == 1,
+            object: fields.number,
+            dwellings: fields.amount,
+            third_party: fields.form == 1,
             label,
         },
         'L' => Event::Launch { date, label },

@@ -2,3 +2,5 @@
 pub mod block;
 pub mod entry;
 pub mod event;
+pub mod fault;
+pub mod reader;

@@ -1,0 +1,72 @@
+-- A file read from its first entry to its last.
+--   blank-before  whether a blank stands before an entry in its block
+--   entry-told    what an entry of a block tells
+--   Outcome       what a step of the reading gives: an entry with its block and its place in the block, or the end
+--   step-at       the outcome at a position, or the fault
+--   step-after    the position that follows
+-- A position is the number of entries passed: 17 to a block.
+use mathlib.Core.Bool.{Bool, false, cond, _||_}
+use mathlib.Core.List.{List}
+use Prim.Native.Nat.{ℕ, zero, suc, _+_, _*_, _/_, _%_}
+use lib.Dec.{eqb, leb}
+use lib.ListN.{length}
+use Rattle.std.specs.declared.result.Result.{Result}
+use Rattle.std.specs.declared.result.Result.the-variants.{Ok, Err}
+use Rattle.refusal.specs.declared.Refusal.{Refusal}
+use Rattle.event_file.specs.Blocks.{block-check, block-of, entry-of}
+use Rattle.event_file.specs.Entries.{Told, told, is-blank, shown}
+use Rattle.event_file.specs.declared.fault.Fault.{Fault}
+use Rattle.event_file.specs.declared.reader.Step.{Step}
+use Rattle.event_file.specs.declared.reader.Step.the-variants as step
+
+abbrev pub blank-before : List ℕ → ℕ → Bool
+blank-before b zero = false
+blank-before b (suc n) = is-blank (entry-of b n) || blank-before b n
+
+abbrev pub entry-told : List ℕ → ℕ → Result Told Refusal
+entry-told b n = told (blank-before b n) (entry-of b n)
+
+pub data Outcome : Type 0 where
+  -- block and entry, both counted from 1
+  entry-at : ℕ → ℕ → Told → Outcome
+  end : Outcome
+
+abbrev pub placed : ℕ → ℕ → Result Told Refusal → Result Outcome Fault
+placed b n (Ok t) = Ok (entry-at b n t)
+placed b n (Err x) = Err (record { refusal = x; block = b; entry = n })
+
+-- The entries of all whole blocks.
+abbrev pub places : List ℕ → ℕ
+places bs = length bs / 512 * 17
+
+-- A block is checked before its first entry.
+abbrev pub check-at : List ℕ → ℕ → Result Unit Refusal
+check-at b n = cond (eqb n 0) (block-check b) (Ok tt)
+
+-- A block that fails its check is refused as a whole, and gives no entry.
+abbrev pub refused-block : ℕ → Refusal → Result Outcome Fault
+refused-block n x = Err (record { refusal = x; block = n; entry = 0 })
+
+abbrev pub checked : {A : Type 0} → Result Unit Refusal → (Refusal → A) → A → A
+checked (Ok u) stop go = go
+checked (Err x) stop go = stop x
+
+-- The entry at a position, counted from 1 as its block is.
+abbrev pub entry-step : List ℕ → ℕ → Result Outcome Fault
+entry-step bs p = placed (p / 17 + 1) (p % 17 + 1) (entry-told (block-of bs (p / 17)) (p % 17))
+
+unfoldable pub step-at : List ℕ → ℕ → Result Outcome Fault
+step-at bs p =
+    cond (leb (places bs) p) (Ok end)
+    (checked (check-at (block-of bs (p / 17)) (p % 17)) (refused-block (p / 17 + 1)) (entry-step bs p))
+
+-- A block that fails its check ends the reading; any other entry, refused or not, is passed.
+unfoldable pub step-after : List ℕ → ℕ → ℕ
+step-after bs p =
+    cond (leb (places bs) p) p
+    (checked (check-at (block-of bs (p / 17)) (p % 17)) (λ _. places bs) (p + 1))
+
+abbrev pub shown-step : Result Step Fault → Result Outcome Fault
+shown-step (Ok (step.Entry b n e)) = Ok (entry-at b n (shown e))
+shown-step (Ok step.End) = Ok end
+shown-step (Err f) = Err f
