@@ -1,6 +1,11 @@
 pub mod Remainders
-pub mod Passing
 pub mod Cuts
 pub mod Each
 pub mod Blanks
 pub mod Steps
+pub mod Deciding
+pub mod ReadingBack
+pub mod Exact
+pub mod Changes
+pub mod SameEntries
+pub mod Labels

@@ -23,6 +23,13 @@ pub data Shown : Type 0 where
   -- date, label
   launch : ℕ → List ℕ → Shown
 
+abbrev pub label-of : Shown → List ℕ
+label-of (commitment d n a l) = l
+label-of (raise d n a l) = l
+label-of (opening d n a l) = l
+label-of (cabling d n a t l) = l
+label-of (launch d l) = l
+
 -- A byte from 32 to 126 prints as a character.
 abbrev pub printable : ℕ → Bool
 printable b = leb 32 b && leb b 126

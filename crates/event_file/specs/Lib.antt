@@ -3,3 +3,4 @@ pub mod Blocks
 pub mod Format
 pub mod Entries
 pub mod Reading
+pub mod Laws

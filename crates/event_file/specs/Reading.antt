@@ -5,16 +5,18 @@
 --   step-at       the outcome at a position, or the fault
 --   step-after    the position that follows
 -- A position is the number of entries passed: 17 to a block.
+use mathlib.Core.Path.{_≡_}
 use mathlib.Core.Bool.{Bool, false, cond, _||_}
 use mathlib.Core.List.{List}
 use Prim.Native.Nat.{ℕ, zero, suc, _+_, _*_, _/_, _%_}
 use lib.Dec.{eqb, leb}
-use lib.ListN.{length}
+use lib.ListN.{length, take, drop}
 use Rattle.std.specs.declared.result.Result.{Result}
 use Rattle.std.specs.declared.result.Result.the-variants.{Ok, Err}
 use Rattle.refusal.specs.declared.Refusal.{Refusal}
 use Rattle.event_file.specs.Blocks.{block-check, block-of, entry-of}
-use Rattle.event_file.specs.Entries.{Told, told, is-blank, shown}
+use Rattle.event_file.specs.Entries.{Told, event, blank, told, is-blank, shown}
+use Rattle.event_file.specs.Format.{label-of}
 use Rattle.event_file.specs.declared.fault.Fault.{Fault}
 use Rattle.event_file.specs.declared.reader.Step.{Step}
 use Rattle.event_file.specs.declared.reader.Step.the-variants as step
@@ -70,3 +72,14 @@ abbrev pub shown-step : Result Step Fault → Result Outcome Fault
 shown-step (Ok (step.Entry b n e)) = Ok (entry-at b n (shown e))
 shown-step (Ok step.End) = Ok end
 shown-step (Err f) = Err f
+
+-- The sixteen bytes of the file where the label of the entry at a position stands.
+abbrev pub label-at : List ℕ → ℕ → List ℕ
+label-at bs p = take 16 (drop (p / 17 * 512 + (p % 17 * 30 + 14)) bs)
+
+-- An event that a step gives has this label.
+abbrev pub Label-is : List ℕ → Result Outcome Fault → Type 0
+Label-is l (Ok (entry-at b n (event e))) = label-of e ≡ l
+Label-is l (Ok (entry-at b n blank)) = Unit {0}
+Label-is l (Ok end) = Unit {0}
+Label-is l (Err f) = Unit {0}

@@ -2,7 +2,8 @@
 ghost use mathlib.Core.Path.{_≡_};
 ghost use Prim.Native.Nat.{_+_, _*_, _%_, _<_};
 ghost use lib.ListN.{length};
-ghost use Rattle.event_file.specs.Blocks.{file-blocks, check-of, written-check, block-check};
+ghost use Rattle.event_file.specs.Blocks.{file-blocks, check-of, written-check, passes as block-passes, block-check};
+ghost use Rattle.event_file.specs.Laws.{Change-is-found};
 use refusal::Refusal;
 
 pub const BLOCK_BYTES: usize = 512;
@@ -55,15 +56,21 @@ fn written_check(block: &[u8]) -> u32
     u32::from(block[510]) * 256 + u32::from(block[511])
 }
 
-// A block is taken only if it is whole and carries the check of its first 510 bytes.
+// Whether a block is whole and carries the check of its first 510 bytes.
+fn passes(block: &[u8]) -> bool
+    ensures value { λ r. ⌜ r ≡ block-passes (now (block .entry)) ⌝ }
+{
+    block.len() == BLOCK_BYTES && check_of(&block[0..CHECKED_BYTES]) == written_check(block)
+}
+
+// A block is taken only if it passes its check.
 pub fn check_block(block: &[u8]) -> Result<(), Refusal>
     ensures answer { λ r. ⌜ r ≡ block-check (now (block .entry)) ⌝ }
+    ensures change { λ _. ⌜ Change-is-found ⌝ }
 {
-    if block.len() != BLOCK_BYTES {
-        return Err(Refusal::BadBlockCheck);
+    if passes(block) {
+        Ok(())
+    } else {
+        Err(Refusal::BadBlockCheck)
     }
-    if check_of(&block[0..CHECKED_BYTES]) != written_check(block) {
-        return Err(Refusal::BadBlockCheck);
-    }
-    Ok(())
 }

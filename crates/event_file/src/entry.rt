@@ -8,6 +8,7 @@ ghost use Rattle.std.specs.Results.{Cases};
 ghost use Rattle.std.specs.declared.option.Option.the-variants.{Some};
 ghost use Rattle.event_file.specs.Format.{label-stands, printable};
 ghost use Rattle.event_file.specs.Entries.{FieldsOf, bad-content, event-letter, event-of, event-refusal, filled-in-vain, is-blank, most-form, shown-answer, shown-event, told};
+ghost use Rattle.event_file.specs.Laws.{Only-its-bytes, Reads-back};
 use crate::event::Entry;
 use crate::event::Event;
 use refusal::Refusal;
@@ -167,6 +168,8 @@ fn event_of(fields: Fields<'_>) -> Event<'_>
 // What an entry tells, where a blank stands before it in its block or not.
 pub fn read_entry(bytes: &[u8], after_blank: bool) -> Result<Entry<'_>, Refusal>
     ensures answer { λ r. ⌜ shown-answer r ≡ told «after_blank» (now (bytes .entry)) ⌝ }
+    ensures back { λ _. ⌜ Reads-back ⌝ }
+    ensures exact { λ _. ⌜ Only-its-bytes ⌝ }
 {
     let [letter, ..] = bytes else {
         return Err(Refusal::BlankRuleBroken);

@@ -6,7 +6,8 @@ ghost use Rattle.std.specs.Results.{Cases};
 ghost use Rattle.std.specs.declared.result.Result.the-variants.{Ok, Err};
 ghost use Rattle.event_file.specs.Blocks.{block-of, entry-of, file-blocks};
 ghost use Rattle.event_file.specs.Entries.{shown-answer};
-ghost use Rattle.event_file.specs.Reading.{blank-before, check-at, entry-told, placed, shown-step, step-after, step-at};
+ghost use Rattle.event_file.specs.Reading.{Label-is, blank-before, check-at, entry-told, label-at, placed, shown-step, step-after, step-at};
+ghost use Rattle.event_file.specs.Laws.{Same-entries};
 use crate::block::BLOCK_BYTES;
 use crate::block::BLOCK_ENTRIES;
 use crate::block::blocks_in;
@@ -126,6 +127,8 @@ impl<'a> Reader<'a> {
         ensures answer { λ r. ⌜ shown-step r ≡ step-at (now (now (self .entry) .bytes)) (now (self .entry) .position) ⌝ }
         ensures position { λ r. ⌜ now (self .exit) .position ≡ step-after (now (now (self .entry) .bytes)) (now (self .entry) .position) ⌝ }
         ensures kept { λ r. ⌜ now (self .exit) .bytes ≡ now (self .entry) .bytes ⌝ }
+        ensures label { λ r. ⌜ Label-is (label-at (now (now (self .entry) .bytes)) (now (self .entry) .position)) (shown-step r) ⌝ }
+        ensures entries { λ _. ⌜ Same-entries ⌝ }
     {
         let end = self.bytes.len() / BLOCK_BYTES * BLOCK_ENTRIES;
         if self.position >= end {

@@ -1,5 +1,7 @@
 use mathlib.Core.Path.{refl}
 use Rattle.event_file.proofs.Steps.{ended-at, ended-after, stopped-at, stopped-after, went-at, went-after}
+use Rattle.event_file.proofs.Labels.{labelled}
+use Rattle.event_file.proofs.SameEntries.{same-entries}
 use Rattle.event_file.proofs.reader.Reader.next_entry.Needs as need
 
 pub returns-then-self-end : need.returns-then-self-end
@@ -10,6 +12,8 @@ returns-then-self-end c =
       answer = ended-at bs p (c .if-self-end .taken);
       position = ended-after bs p (c .if-self-end .taken);
       kept = refl;
+      label = tt;
+      entries = same-entries;
     }
 
 pub returns-in-Err : need.returns-in-Err
@@ -21,6 +25,8 @@ returns-in-Err c =
       answer = stopped-at bs p b (c .in-Err .refusal) (c .if-self-end .left) (c .block-at-block .ensures .value) (c .in-Err .ensures tt .answer);
       position = stopped-after bs p b (c .in-Err .refusal) (c .if-self-end .left) (c .block-at-block .ensures .value) (c .in-Err .ensures tt .answer);
       kept = refl;
+      label = tt;
+      entries = same-entries;
     }
 
 pub returns : need.returns
@@ -32,4 +38,6 @@ returns c =
       answer = went-at bs p b _ (c .in-rest .field-0) (c .if-self-end .left) (c .block-at-block .ensures .value) (c .in-rest .ensures tt .answer) (c .step-in .ensures .answer);
       position = went-after bs p b (c .in-rest .field-0) (c .if-self-end .left) (c .block-at-block .ensures .value) (c .in-rest .ensures tt .answer);
       kept = refl;
+      label = labelled bs p (went-at bs p b _ (c .in-rest .field-0) (c .if-self-end .left) (c .block-at-block .ensures .value) (c .in-rest .ensures tt .answer) (c .step-in .ensures .answer));
+      entries = same-entries;
     }

@@ -1,0 +1,37 @@
+-- What the format guarantees, as laws over all events and all bytes.
+--   Reads-back          the bytes of every event within limits read back as that event
+--   Only-its-bytes      an entry that reads as an event is exactly that event's bytes
+--   Change-is-found     a block in which any single byte is changed fails its check
+--   Same-entries        two blocks that pass all checks and give the same entries are the same bytes
+use mathlib.Core.Path.{_≡_}
+use mathlib.Core.Bool.{Bool, true, false}
+use mathlib.Core.List.{List}
+use Prim.Native.Nat.{ℕ, _<_}
+use lib.ListN.{getD, set}
+use Rattle.std.specs.Results.{isOk}
+use Rattle.std.specs.declared.result.Result.the-variants.{Ok}
+use Rattle.event_file.specs.Bytes.{Bytes}
+use Rattle.event_file.specs.Blocks.{passes}
+use Rattle.event_file.specs.Format.{Shown, Within, entry-bytes}
+use Rattle.event_file.specs.Entries.{event, told}
+use Rattle.event_file.specs.Reading.{entry-told}
+
+abbrev pub Reads-back : Type 0
+Reads-back = (e : Shown) → Within e → told false (entry-bytes e) ≡ Ok (event e)
+
+-- It also keeps the limits, and no blank stands before it in its block.
+abbrev pub Only-its-bytes : Type 0
+Only-its-bytes = (after : Bool) (bs : List ℕ) (e : Shown) → Bytes bs → told after bs ≡ Ok (event e) → (after ≡ false) × Within e × (bs ≡ entry-bytes e)
+
+-- The byte may stand in an entry or in the check itself.
+abbrev pub Change-is-found : Type 0
+Change-is-found = (b : List ℕ) (i v : ℕ) → Bytes b → passes b ≡ true → i < 512 → v < 256 → (v ≡ getD b i 0 → ⊥) → passes (set b i v) ≡ false
+
+-- A block that passes its check, and of which every entry is an event or a blank.
+pub record Sound (b : List ℕ) : Type 0 where
+  pub bytes : Bytes b
+  pub check : passes b ≡ true
+  pub entries : (n : ℕ) → n < 17 → isOk (entry-told b n) ≡ true
+
+abbrev pub Same-entries : Type 0
+Same-entries = (b c : List ℕ) → Sound b → Sound c → ((n : ℕ) → n < 17 → entry-told b n ≡ entry-told c n) → b ≡ c
