@@ -1,4 +1,7 @@
 // What an entry tells. A label is a part of the block itself, lent and not copied.
+ghost use mathlib.Core.Path.{_≡_};
+ghost use Rattle.event_file.specs.Format.{label-of};
+ghost use Rattle.event_file.specs.Entries.{shown-event};
 
 #[derive(Clone, Copy)]
 pub enum Event<'a> {
@@ -36,6 +39,21 @@ pub enum Event<'a> {
         date: u32,
         label: &'a [u8],
     },
+}
+
+impl<'a> Event<'a> {
+    // The sixteen bytes that name the event to people.
+    pub const fn label(self) -> &'a [u8]
+        ensures value { λ r. ⌜ now r ≡ label-of (shown-event (self .entry)) ⌝ }
+    {
+        match self {
+            Event::Commitment { label, .. }
+            | Event::Raise { label, .. }
+            | Event::Opening { label, .. }
+            | Event::Cabling { label, .. }
+            | Event::Launch { label, .. } => label,
+        }
+    }
 }
 
 #[derive(Clone, Copy)]
