@@ -1,17 +1,33 @@
--- The parts of an entry, as its slice patterns cut them.
-use mathlib.Core.Path.{_≡_, ap, _∙_}
-use mathlib.Core.List.{List}
-use Prim.Native.Nat.{ℕ, _+_, _-_}
-use lib.ListN.{length, getD, take, drop}
-use Rattle.std.proofs.shelf.Lists.{take-rest, drop-drop, getD-drop}
+-- The fields of an entry, as the slice pattern cuts them, and whether they are good.
+use mathlib.Core.Path.{_≡_, sym, ap, _∙_}
+use mathlib.Core.Bool.{Bool, true, false}
+use mathlib.Core.List.{List, [], _∷_}
+use Prim.Native.Nat.{ℕ}
+use lib.ListN.{length}
+use Rattle.std.specs.Holes.{between}
+use Rattle.std.specs.declared.option.Option.the-variants.{Some}
+use Rattle.std.proofs.shelf.Lists.{take-rest}
+use Rattle.refusal.specs.declared.Refusal.the-variants.{BlankRuleBroken, BadEntryContent}
+use Rattle.refusal.specs.Checks.{first, _⇒_}
+use Rattle.event_file.specs.Entries.{FieldsOf, bad-content, bad-fields, event-refusal, form-in, label-in, letter-in, number-at}
+use Rattle.event_file.specs.declared.entry.Fields.{Fields}
 
--- what follows the letter and the date
-abbrev rest : List ℕ → List ℕ
-rest bs = take (length bs - 5) (drop 5 bs)
+-- the bytes from the fifteenth to the last are what follows the first fourteen
+pub whole-label : (bs : List ℕ) (f : Fields) → FieldsOf bs (between 14 (length bs) bs) f → FieldsOf bs (label-in bs) f
+whole-label bs f k = record {
+  letter-is = k .letter-is;
+  date-is = k .date-is;
+  number-is = k .number-is;
+  amount-is = k .amount-is;
+  form-is = k .form-is;
+  label-is = k .label-is ∙ take-rest bs 14;
+}
 
-pub rest-at : (bs : List ℕ) (k : ℕ) → getD (rest bs) k 0 ≡ getD bs (5 + k) 0
-rest-at bs k = ap (λ l. getD l k 0) (take-rest bs 5) ∙ getD-drop 5 bs k 0
+-- the fields are bad if and only if the entry's content is
+pub same-bad : (bs : List ℕ) (f : Fields) (r : Bool) → FieldsOf bs (label-in bs) f → r ≡ bad-fields (f .letter) (f .number) (f .amount) (f .form) (f .label .now) → bad-content bs ≡ r
+same-bad bs f r k e = cc
 
--- what follows the form
-pub rest-label : (bs : List ℕ) → take (length (rest bs) - 9) (drop 9 (rest bs)) ≡ drop 14 bs
-rest-label bs = take-rest (rest bs) 9 ∙ ap (drop 9) (take-rest bs 5) ∙ drop-drop 9 5 bs
+pub refused-content : (after : Bool) (bs : List ℕ) → after ≡ false → bad-content bs ≡ true → Some BadEntryContent ≡ event-refusal after bs
+refused-content after bs e h =
+    sym (ap (λ t. first ((t ⇒ BlankRuleBroken) ∷ (bad-content bs ⇒ BadEntryContent) ∷ [])) e
+    ∙ ap (λ t. first ((false ⇒ BlankRuleBroken) ∷ (t ⇒ BadEntryContent) ∷ [])) h)

@@ -1,5 +1,4 @@
 pub mod Remainders
-pub mod Cuts
 pub mod Each
 pub mod Blanks
 pub mod Steps
@@ -9,3 +8,4 @@ pub mod Exact
 pub mod Changes
 pub mod SameEntries
 pub mod Labels
+pub mod Cuts

@@ -17,17 +17,17 @@ use Rattle.std.proofs.shelf.Tests.{and-parts, cases-eq, cases-lt, eqb-true, not
 use Rattle.event_file.specs.Bytes.{Bytes, each}
 use Rattle.event_file.specs.Blocks.{check-of, entry-of, passes, written-check}
 use Rattle.event_file.specs.Format.{Shown, entry-bytes}
-use Rattle.event_file.specs.Entries.{Told, event, blank, bad-content, breaks-blank-rule, event-in, event-letter, is-blank, letter-in, told, unknown-letter}
+use Rattle.event_file.specs.Entries.{Told, event, blank, bad-content, breaks-blank-rule, event-in, event-letter, is-blank, is-zero, letter-in, told, unknown-letter}
 use Rattle.event_file.specs.Reading.{blank-before, entry-told}
 use Rattle.event_file.specs.Laws.{Same-entries, Sound}
 use Rattle.event_file.proofs.Changes.{carried, whole}
 use Rattle.event_file.proofs.Deciding.{AllPassed, passed-all}
 use Rattle.event_file.proofs.Exact.{byte-at, only-its-bytes}
 
-zeros : (bs : List ℕ) → each (λ b. eqb b 0) bs ≡ true → bs ≡ replicate (length bs) 0
+zeros : (bs : List ℕ) → each is-zero bs ≡ true → bs ≡ replicate (length bs) 0
 zeros [] h = refl
 zeros (b ∷ bs) h =
-    let both = and-parts (eqb b 0) (each (λ x. eqb x 0) bs) h in
+    let both = and-parts (eqb b 0) (each is-zero bs) h in
     let first = eqb-true b 0 (both .0) in
     let rest = zeros bs (both .1) in
     cc
@@ -35,7 +35,7 @@ zeros (b ∷ bs) h =
 -- a blank is thirty zero bytes
 thirty-zeros : (bs : List ℕ) → is-blank bs ≡ true → bs ≡ replicate 30 0
 thirty-zeros bs h =
-    let both = and-parts (eqb (length bs) 30) (each (λ x. eqb x 0) bs) h in
+    let both = and-parts (eqb (length bs) 30) (each is-zero bs) h in
     zeros bs (both .1) ∙ ap (λ n. replicate n 0) (eqb-true (length bs) 30 (both .0))
 
 blank-read : (z known dirty after bad : Bool) (e : Shown) → AllPassed (not (z || known)) (cond z dirty after) (not z && bad) (cond z blank (event e)) blank → dirty ≡ false

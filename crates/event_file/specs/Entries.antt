@@ -45,8 +45,11 @@ label-in bs = drop 14 bs
 abbrev pub event-letter : ℕ → Bool
 event-letter c = eqb c 69 || (eqb c 65 || (eqb c 80 || (eqb c 83 || eqb c 76)))
 
+abbrev pub is-zero : ℕ → Bool
+is-zero b = eqb b 0
+
 abbrev pub is-blank : List ℕ → Bool
-is-blank bs = eqb (length bs) 30 && each (λ b. eqb b 0) bs
+is-blank bs = eqb (length bs) 30 && each is-zero bs
 
 -- The letter is that of an event, or the byte 0 of a blank.
 abbrev pub unknown-letter : List ℕ → Bool
@@ -64,10 +67,12 @@ most-form c = cond (eqb c 83) 1 0
 abbrev pub filled-in-vain : ℕ → ℕ → ℕ → Bool
 filled-in-vain c n a = eqb c 76 && not (eqb n 0 && eqb a 0)
 
+-- The content is bad if the form, a number or the label is.
+abbrev pub bad-fields : ℕ → ℕ → ℕ → ℕ → List ℕ → Bool
+bad-fields c n a form l = ltb (most-form c) form || (filled-in-vain c n a || not (label-stands l))
+
 abbrev pub bad-content : List ℕ → Bool
-bad-content bs =
-    ltb (most-form (letter-in bs)) (form-in bs)
-    || (filled-in-vain (letter-in bs) (number-at bs 5) (number-at bs 9) || not (label-stands (label-in bs)))
+bad-content bs = bad-fields (letter-in bs) (number-at bs 5) (number-at bs 9) (form-in bs) (label-in bs)
 
 -- The event of a letter, its numbers, its form and its label.
 abbrev pub event-of : ℕ → ℕ → ℕ → ℕ → ℕ → List ℕ → Shown
@@ -111,11 +116,11 @@ abbrev pub shown-answer : Result Entry Refusal → Result Told Refusal
 shown-answer (Ok e) = Ok (shown e)
 shown-answer (Err x) = Err x
 
--- Fields that are those of an entry.
-pub record FieldsOf (bs : List ℕ) (f : Fields) : Type 0 where
+-- Fields that are those of an entry, with a label.
+pub record FieldsOf (bs l : List ℕ) (f : Fields) : Type 0 where
   pub letter-is : f .letter ≡ letter-in bs
   pub date-is : f .date ≡ number-at bs 1
   pub number-is : f .number ≡ number-at bs 5
   pub amount-is : f .amount ≡ number-at bs 9
   pub form-is : f .form ≡ form-in bs
-  pub label-is : f .label .now ≡ label-in bs
+  pub label-is : f .label .now ≡ l

@@ -3,11 +3,13 @@ ghost use mathlib.Core.Path.{_≡_};
 ghost use mathlib.Core.Bool.{true, false};
 ghost use Prim.Native.Nat.{_+_, _*_, _<_, _≤_};
 ghost use lib.ListN.{length};
+ghost use Rattle.std.specs.Holes.{between};
 ghost use Rattle.std.specs.Options.{Cases as BySome};
 ghost use Rattle.std.specs.Results.{Cases};
 ghost use Rattle.std.specs.declared.option.Option.the-variants.{Some};
+ghost use Rattle.event_file.specs.Bytes.{each};
 ghost use Rattle.event_file.specs.Format.{label-stands, printable};
-ghost use Rattle.event_file.specs.Entries.{FieldsOf, bad-content, event-letter, event-of, event-refusal, filled-in-vain, is-blank, most-form, shown-answer, shown-event, told};
+ghost use Rattle.event_file.specs.Entries.{FieldsOf, bad-content, bad-fields, event-letter, event-of, event-refusal, filled-in-vain, is-blank, is-zero, label-in, most-form, shown-answer, shown-event, told};
 ghost use Rattle.event_file.specs.Laws.{Only-its-bytes, Reads-back};
 use crate::event::Entry;
 use crate::event::Event;
@@ -37,12 +39,26 @@ const fn number_of(a: u8, b: u8, c: u8, d: u8) -> u32
 
 // The parts of an entry, if it is long enough for all but the label.
 fn split(bytes: &[u8]) -> Option<Fields<'_>>
-    ensures answer { λ r. ⌜ BySome r (length (now (bytes .entry)) < 14) (λ f. (14 ≤ length (now (bytes .entry))) × FieldsOf (now (bytes .entry)) f) ⌝ }
+    ensures answer { λ r. ⌜ BySome r (length (now (bytes .entry)) < 14) (λ f. (14 ≤ length (now (bytes .entry))) × FieldsOf (now (bytes .entry)) (between 14 (length (now (bytes .entry))) (now (bytes .entry))) f) ⌝ }
 {
-    let [letter, d0, d1, d2, d3, rest @ ..] = bytes else {
-        return None;
-    };
-    let [n0, n1, n2, n3, a0, a1, a2, a3, form, label @ ..] = rest else {
+    let [
+        letter,
+        d0,
+        d1,
+        d2,
+        d3,
+        n0,
+        n1,
+        n2,
+        n3,
+        a0,
+        a1,
+        a2,
+        a3,
+        form,
+        label @ ..,
+    ] = bytes
+    else {
         return None;
     };
     Some(Fields {
@@ -62,15 +78,31 @@ const fn prints(byte: u8) -> bool
     32 <= byte && byte <= 126
 }
 
+// Whether all bytes print as characters.
+fn all_print(bytes: &[u8]) -> bool
+    ensures value { λ r. ⌜ r ≡ each printable (now (bytes .entry)) ⌝ }
+{
+    for byte in bytes {
+        if !prints(*byte) {
+            return false;
+        }
+    }
+    true
+}
+
 // Whether bytes can be a label: sixteen of them, each from 32 to 126.
 fn label_stands(label: &[u8]) -> bool
     ensures value { λ r. ⌜ r ≡ label-stands (now (label .entry)) ⌝ }
 {
-    if label.len() != LABEL_BYTES {
-        return false;
-    }
-    for byte in label {
-        if !prints(*byte) {
+    label.len() == LABEL_BYTES && all_print(label)
+}
+
+// Whether all bytes are zero.
+fn all_zero(bytes: &[u8]) -> bool
+    ensures value { λ r. ⌜ r ≡ each is-zero (now (bytes .entry)) ⌝ }
+{
+    for byte in bytes {
+        if *byte != 0 {
             return false;
         }
     }
@@ -81,15 +113,7 @@ fn label_stands(label: &[u8]) -> bool
 pub fn is_blank(bytes: &[u8]) -> bool
     ensures value { λ r. ⌜ r ≡ is-blank (now (bytes .entry)) ⌝ }
 {
-    if bytes.len() != ENTRY_BYTES {
-        return false;
-    }
-    for byte in bytes {
-        if *byte != 0 {
-            return false;
-        }
-    }
-    true
+    bytes.len() == ENTRY_BYTES && all_zero(bytes)
 }
 
 // The largest form of a letter: only a site may be cabled by a third party.
@@ -109,9 +133,18 @@ const fn filled_in_vain(letter: char, number: u32, amount: u32) -> bool
     letter == 'L' && (number != 0 || amount != 0)
 }
 
+// Whether the form, a number or the label is wrong.
+fn bad_fields(fields: Fields<'_>) -> bool
+    ensures value { λ r. ⌜ r ≡ bad-fields (fields .entry .letter) (fields .entry .number) (fields .entry .amount) (fields .entry .form) (now (fields .entry .label)) ⌝ }
+{
+    fields.form > most_form(fields.letter)
+        || filled_in_vain(fields.letter, fields.number, fields.amount)
+        || !label_stands(fields.label)
+}
+
 // The parts of an entry with an event's letter, once it is known that it may stand where it does.
 fn checked_fields(bytes: &[u8], after_blank: bool) -> Result<Fields<'_>, Refusal>
-    ensures answer { λ r. ⌜ Cases r (λ f. FieldsOf (now (bytes .entry)) f × («after_blank» ≡ false) × (bad-content (now (bytes .entry)) ≡ false)) (λ x. Some x ≡ event-refusal «after_blank» (now (bytes .entry))) ⌝ }
+    ensures answer { λ r. ⌜ Cases r (λ f. FieldsOf (now (bytes .entry)) (label-in (now (bytes .entry))) f × («after_blank» ≡ false) × (bad-content (now (bytes .entry)) ≡ false)) (λ x. Some x ≡ event-refusal «after_blank» (now (bytes .entry))) ⌝ }
 {
     if after_blank {
         return Err(Refusal::BlankRuleBroken);
@@ -119,10 +152,7 @@ fn checked_fields(bytes: &[u8], after_blank: bool) -> Result<Fields<'_>, Refusal
     let Some(fields) = split(bytes) else {
         return Err(Refusal::BadEntryContent);
     };
-    if fields.form > most_form(fields.letter)
-        || filled_in_vain(fields.letter, fields.number, fields.amount)
-        || !label_stands(fields.label)
-    {
+    if bad_fields(fields) {
         return Err(Refusal::BadEntryContent);
     }
     Ok(fields)

@@ -43,7 +43,7 @@ pub enum Event<'a> {
 
 impl<'a> Event<'a> {
     // The sixteen bytes that name the event to people.
-    pub const fn label(self) -> &'a [u8]
+    pub fn label(self) -> &'a [u8]
         ensures value { λ r. ⌜ now r ≡ label-of (shown-event (self .entry)) ⌝ }
     {
         match self {
