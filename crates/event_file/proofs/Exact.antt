@@ -160,6 +160,5 @@ only-its-bytes after bs e k r =
     let long = length-from-label bs (g .label-good) in
     let both = good (number-at bs 1) (number-at bs 5) (number-at bs 9) (form-in bs) (label-in bs) (number-fits bs k 1) (number-fits bs k 5) (number-fits bs k 9) (g .label-good) (letter-in bs) (p .event-known) (g .form-good) (g .numbers-good) in (
       p .none-before,
-      subst Within (p .same-event) (both .0),
-      laid-again bs (omega (arith, long)) k ∙ both .1 ∙ ap entry-bytes (p .same-event),
+      (subst Within (p .same-event) (both .0), laid-again bs (omega (arith, long)) k ∙ both .1 ∙ ap entry-bytes (p .same-event)),
     )

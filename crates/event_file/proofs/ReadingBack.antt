@@ -6,8 +6,8 @@ use Prim.Native.Nat.{ℕ, _+_, _*_, _/_, _%_, _^_, _<_}
 use native.Mathlib.Omega.{arith}
 use native.Mathlib.Nat.{div-div-eq-div-mul, mod-eq-of-lt}
 use Rattle.std.specs.declared.result.Result.the-variants.{Ok}
-use Rattle.event_file.specs.Format.{Shown, commitment, raise, opening, cabling, launch, label-stands}
-use Rattle.event_file.specs.Entries.{Told, event}
+use Rattle.event_file.specs.Format.{Shown, commitment, raise, opening, cabling, launch, Within, entry-bytes, label-stands}
+use Rattle.event_file.specs.Entries.{Told, event, told}
 use Rattle.event_file.specs.Laws.{Reads-back}
 use Rattle.event_file.proofs.Deciding.{decide, decided-ok}
 
@@ -40,12 +40,15 @@ module _ (f : ℕ → ℕ → ℕ → List ℕ → Shown) (d n a : ℕ) (l : Lis
 label-good : (l : List ℕ) (t : Told) → label-stands l ≡ true → decide false false (not (label-stands l)) t ≡ Ok t
 label-good l t e = decided-ok false false (not (label-stands l)) t refl refl (ap not e)
 
-pub reads-back : Reads-back
-reads-back (commitment d n a l) w = label-good l _ (w .3) ∙ ap Ok (numbers-same commitment d n a l (w .0) (w .1) (w .2))
-reads-back (raise d n a l) w = label-good l _ (w .3) ∙ ap Ok (numbers-same raise d n a l (w .0) (w .1) (w .2))
-reads-back (opening d n a l) w = label-good l _ (w .3) ∙ ap Ok (numbers-same opening d n a l (w .0) (w .1) (w .2))
-reads-back (cabling d n a true l) w =
+own-bytes : (e : Shown) → Within e → told false (entry-bytes e) ≡ Ok (event e)
+own-bytes (commitment d n a l) w = label-good l _ (w .3) ∙ ap Ok (numbers-same commitment d n a l (w .0) (w .1) (w .2))
+own-bytes (raise d n a l) w = label-good l _ (w .3) ∙ ap Ok (numbers-same raise d n a l (w .0) (w .1) (w .2))
+own-bytes (opening d n a l) w = label-good l _ (w .3) ∙ ap Ok (numbers-same opening d n a l (w .0) (w .1) (w .2))
+own-bytes (cabling d n a true l) w =
     label-good l _ (w .3) ∙ ap Ok (numbers-same (λ x y z k. cabling x y z true k) d n a l (w .0) (w .1) (w .2))
-reads-back (cabling d n a false l) w =
+own-bytes (cabling d n a false l) w =
     label-good l _ (w .3) ∙ ap Ok (numbers-same (λ x y z k. cabling x y z false k) d n a l (w .0) (w .1) (w .2))
-reads-back (launch d l) w = label-good l _ (w .1) ∙ ap (λ x. Ok (event (launch x l))) (four-same d (w .0))
+own-bytes (launch d l) w = label-good l _ (w .1) ∙ ap (λ x. Ok (event (launch x l))) (four-same d (w .0))
+
+pub reads-back : Reads-back
+reads-back bs e w = ap (told false) (w .1) ∙ own-bytes e (w .0)

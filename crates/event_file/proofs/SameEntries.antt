@@ -55,7 +55,7 @@ only-zeros after bs r =
 -- entries that tell the same are the same bytes
 module _ (x y : Bool) (bs cs : List ℕ) (hb : Bytes bs) (hc : Bytes cs) where
   same-told-bytes : (t : Told) → told x bs ≡ Ok t → told y cs ≡ Ok t → bs ≡ cs
-  same-told-bytes (event e) p q = only-its-bytes x bs e hb p .2 ∙ sym (only-its-bytes y cs e hc q .2)
+  same-told-bytes (event e) p q = only-its-bytes x bs e hb p .1 .1 ∙ sym (only-its-bytes y cs e hc q .1 .1)
   same-told-bytes blank p q = only-zeros x bs p ∙ sym (only-zeros y cs q)
 
   same-from : (r : Result Told Refusal) → told x bs ≡ r → isOk r ≡ true → told x bs ≡ told y cs → bs ≡ cs

@@ -2,6 +2,7 @@
 --   Shown         an event as a plain value, its label a list of bytes
 --   Within        the limits of an event that can be written
 --   entry-bytes   the bytes of an event
+--   Writes        bytes that write an event: reading an event is this relation, from the bytes to the event
 --   label-stands  whether bytes can be a label: sixteen, each from 32 to 126
 use mathlib.Core.Path.{_≡_}
 use mathlib.Core.Bool.{Bool, true, false, cond, _&&_}
@@ -61,3 +62,7 @@ entry-bytes (raise d n a l) = laid 65 d n a 0 l
 entry-bytes (opening d n a l) = laid 80 d n a 0 l
 entry-bytes (cabling d n a t l) = laid 83 d n a (cond t 1 0) l
 entry-bytes (launch d l) = laid 76 d 0 0 0 l
+
+-- The event keeps the limits, and the bytes are exactly its own.
+abbrev pub Writes : List ℕ → Shown → Type 0
+Writes bs e = Within e × (bs ≡ entry-bytes e)

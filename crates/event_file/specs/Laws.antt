@@ -12,18 +12,19 @@ use Rattle.std.specs.Results.{isOk}
 use Rattle.std.specs.declared.result.Result.the-variants.{Ok}
 use Rattle.event_file.specs.Bytes.{Bytes}
 use Rattle.event_file.specs.Blocks.{passes}
-use Rattle.event_file.specs.Format.{Shown, Within, entry-bytes}
+use Rattle.event_file.specs.Format.{Shown, Writes}
 use Rattle.event_file.specs.Entries.{event, told}
 use Rattle.event_file.specs.Reading.{entry-told}
 
+-- Bytes that write an event read as that event, where no blank stands before them in their block.
 abbrev pub Reads-back : Type 0
-Reads-back = (e : Shown) → Within e → told false (entry-bytes e) ≡ Ok (event e)
+Reads-back = (bs : List ℕ) (e : Shown) → Writes bs e → told false bs ≡ Ok (event e)
 
--- It also keeps the limits, and no blank stands before it in its block.
+-- Bytes that read as an event write it, and no blank stands before them in their block.
 abbrev pub Only-its-bytes : Type 0
-Only-its-bytes = (after : Bool) (bs : List ℕ) (e : Shown) → Bytes bs → told after bs ≡ Ok (event e) → (after ≡ false) × Within e × (bs ≡ entry-bytes e)
+Only-its-bytes = (after : Bool) (bs : List ℕ) (e : Shown) → Bytes bs → told after bs ≡ Ok (event e) → (after ≡ false) × Writes bs e
 
--- The byte may stand in an entry or in the check itself.
+-- A block that passes its check fails it once any of its bytes is another, in an entry or in the check itself.
 abbrev pub Change-is-found : Type 0
 Change-is-found = (b : List ℕ) (i v : ℕ) → Bytes b → passes b ≡ true → i < 512 → v < 256 → (v ≡ getD b i 0 → ⊥) → passes (set b i v) ≡ false
 
@@ -33,5 +34,6 @@ pub record Sound (b : List ℕ) : Type 0 where
   pub check : passes b ≡ true
   pub entries : (n : ℕ) → n < 17 → isOk (entry-told b n) ≡ true
 
+-- Nothing in such a block goes unread: its entries determine all its bytes.
 abbrev pub Same-entries : Type 0
 Same-entries = (b c : List ℕ) → Sound b → Sound c → ((n : ℕ) → n < 17 → entry-told b n ≡ entry-told c n) → b ≡ c

@@ -1,4 +1,5 @@
 -- A file read from its first entry to its last.
+--   Opened        what opening a file gives
 --   blank-before  whether a blank stands before an entry in its block
 --   entry-told    what an entry of a block tells
 --   Outcome       what a step of the reading gives: an entry with its block and its place in the block, or the end
@@ -14,13 +15,20 @@ use lib.ListN.{length, take, drop}
 use Rattle.std.specs.declared.result.Result.{Result}
 use Rattle.std.specs.declared.result.Result.the-variants.{Ok, Err}
 use Rattle.refusal.specs.declared.Refusal.{Refusal}
-use Rattle.event_file.specs.Blocks.{block-check, block-of, entry-of}
+use Rattle.event_file.specs.Blocks.{block-check, block-of, entry-of, file-blocks}
 use Rattle.event_file.specs.Entries.{Told, event, blank, told, is-blank, shown}
 use Rattle.event_file.specs.Format.{label-of}
 use Rattle.event_file.specs.declared.fault.Fault.{Fault}
+use Rattle.event_file.specs.declared.reader.Reader.{Reader}
 use Rattle.event_file.specs.declared.reader.Step.{Step}
 use Rattle.event_file.specs.declared.reader.Step.the-variants as step
 
+-- A file opens at its first entry, or is refused as a whole for its length.
+abbrev pub Opened : List ℕ → Result Reader Fault → Type 0
+Opened bs (Ok d) = (file-blocks (length bs) ≡ Ok (length bs / 512)) × (d .bytes .now ≡ bs) × (d .position ≡ 0)
+Opened bs (Err f) = (file-blocks (length bs) ≡ Err (f .refusal)) × (f .block ≡ 0) × (f .entry ≡ 0)
+
+-- A blank stands before an entry if one of the earlier entries of its block is a blank.
 abbrev pub blank-before : List ℕ → ℕ → Bool
 blank-before b zero = false
 blank-before b (suc n) = is-blank (entry-of b n) || blank-before b n

@@ -53,7 +53,7 @@ fn written_check(block: &[u8]) -> u32
     requires { ⌜ length (now block) ≡ 512 ⌝ }
     ensures value { λ r. ⌜ r ≡ written-check (now (block .entry)) ⌝ }
 {
-    u32::from(block[510]) * 256 + u32::from(block[511])
+    u32::from(u16::from_be_bytes([block[CHECKED_BYTES], block[CHECKED_BYTES + 1]]))
 }
 
 // Whether a block is whole and carries the check of its first 510 bytes.

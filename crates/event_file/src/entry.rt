@@ -1,7 +1,7 @@
 // An entry taken apart: one letter, three numbers, a form byte and a label.
 ghost use mathlib.Core.Path.{_≡_};
 ghost use mathlib.Core.Bool.{true, false};
-ghost use Prim.Native.Nat.{_+_, _*_, _<_, _≤_};
+ghost use Prim.Native.Nat.{_<_, _≤_};
 ghost use lib.ListN.{length};
 ghost use Rattle.std.specs.Holes.{between};
 ghost use Rattle.std.specs.Options.{Cases as BySome};
@@ -30,13 +30,6 @@ struct Fields<'a> {
     label: &'a [u8],
 }
 
-// A number of 32 bits, high byte first.
-const fn number_of(a: u8, b: u8, c: u8, d: u8) -> u32
-    ensures value { λ r. ⌜ r ≡ a * 16777216 + b * 65536 + c * 256 + d ⌝ }
-{
-    a as u32 * 16777216 + b as u32 * 65536 + c as u32 * 256 + d as u32
-}
-
 // The parts of an entry, if it is long enough for all but the label.
 fn split(bytes: &[u8]) -> Option<Fields<'_>>
     ensures answer { λ r. ⌜ BySome r (length (now (bytes .entry)) < 14) (λ f. (14 ≤ length (now (bytes .entry))) × FieldsOf (now (bytes .entry)) (between 14 (length (now (bytes .entry))) (now (bytes .entry))) f) ⌝ }
@@ -63,9 +56,9 @@ fn split(bytes: &[u8]) -> Option<Fields<'_>>
     };
     Some(Fields {
         letter: char::from(*letter),
-        date: number_of(*d0, *d1, *d2, *d3),
-        number: number_of(*n0, *n1, *n2, *n3),
-        amount: number_of(*a0, *a1, *a2, *a3),
+        date: u32::from_be_bytes([*d0, *d1, *d2, *d3]),
+        number: u32::from_be_bytes([*n0, *n1, *n2, *n3]),
+        amount: u32::from_be_bytes([*a0, *a1, *a2, *a3]),
         form: *form,
         label,
     })

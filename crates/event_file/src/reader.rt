@@ -1,12 +1,14 @@
 // A file read entry by entry, each block checked before its entries.
 ghost use mathlib.Core.Path.{_≡_};
-ghost use Prim.Native.Nat.{_+_, _*_, _/_, _^_, _<_, _≤_};
+ghost use Prim.Native.Nat.{_+_, _*_, _^_, _<_, _≤_};
 ghost use lib.ListN.{length};
-ghost use Rattle.std.specs.Results.{Cases};
-ghost use Rattle.std.specs.declared.result.Result.the-variants.{Ok, Err};
-ghost use Rattle.event_file.specs.Blocks.{block-of, entry-of, file-blocks};
+ghost use Rattle.event_file.specs.Blocks.{block-of, entry-of};
 ghost use Rattle.event_file.specs.Entries.{shown-answer};
+<<<<<<< HEAD
 ghost use Rattle.event_file.specs.Reading.{Label-is, blank-before, check-at, entry-told, label-at, placed, shown-step, step-after, step-at};
+=======
+ghost use Rattle.event_file.specs.Reading.{Forward, Label-is, Opened, blank-before, check-at, entry-told, label-at, placed, places, shown-step, step-after, step-at};
+>>>>>>> be79937 (State reading as the relation between an event and its bytes; describe the format)
 ghost use Rattle.event_file.specs.Laws.{Same-entries};
 use crate::block::BLOCK_BYTES;
 use crate::block::BLOCK_ENTRIES;
@@ -110,7 +112,7 @@ fn step_in(block: &[u8], number: usize, place: usize) -> Result<Step<'_>, Fault>
 impl<'a> Reader<'a> {
     // A file is read only if its length is lawful.
     pub fn open(bytes: &'a [u8]) -> Result<Reader<'a>, Fault>
-        ensures answer { λ r. ⌜ Cases r (λ d. (file-blocks (length (now (bytes .entry))) ≡ Ok (length (now (bytes .entry)) / 512)) × (now (d .bytes) ≡ now (bytes .entry)) × (d .position ≡ 0)) (λ f. (file-blocks (length (now (bytes .entry))) ≡ Err (f .refusal)) × (f .block ≡ 0) × (f .entry ≡ 0)) ⌝ }
+        ensures answer { λ r. ⌜ Opened (now (bytes .entry)) r ⌝ }
     {
         match blocks_in(bytes.len()) {
             Ok(_) => Ok(Reader { bytes, position: 0 }),
