@@ -2,13 +2,16 @@
 use mathlib.Core.Path.{_≡_, sym, ap, _∙_}
 use mathlib.Core.List.{List}
 use Prim.Native.Nat.{ℕ, _+_, _/_, _%_, _<_, _≤_}
+use native.Mathlib.Omega.{arith}
 use Rattle.std.proofs.shelf.Tests.{le-leb, lt-leb, cond-true, cond-false}
 use Rattle.std.specs.declared.result.Result.{Result}
 use Rattle.std.specs.declared.result.Result.the-variants.{Ok, Err}
 use Rattle.refusal.specs.declared.Refusal.{Refusal}
 use Rattle.event_file.specs.Blocks.{block-of}
-use Rattle.event_file.specs.Reading.{Outcome, end, check-at, checked, entry-told, entry-step, placed, places, refused-block, step-after, step-at}
+use Rattle.event_file.specs.Reading.{Forward, Outcome, end, check-at, checked, entry-told, entry-step, placed, places, refused-block, shown-step, step-after, step-at}
 use Rattle.event_file.specs.declared.fault.Fault.{Fault}
+use Rattle.event_file.specs.declared.reader.Step.{Step}
+use Rattle.event_file.specs.declared.reader.Step.the-variants as step
 
 pub ended-at : (bs : List ℕ) (p : ℕ) → places bs ≤ p → Ok end ≡ step-at bs p
 unfolding step-at
@@ -43,3 +46,8 @@ pub went-after : (bs : List ℕ) (p : ℕ) (b : List ℕ) (u : Unit {0}) → p <
 unfolding step-after
 went-after bs p b u before is same =
     decided bs p b (Ok u) (λ _. places bs) (p + 1) is same ∙ sym (cond-false _ _ _ (lt-leb (places bs) p before))
+
+pub forward-by : (bs : List ℕ) (p : ℕ) (r : Result Step Fault) → p < places bs → Forward p (p + 1) (places bs) (shown-step r)
+forward-by bs p (Ok (step.Entry b n t)) before = (omega arith, omega (arith, before))
+forward-by bs p (Ok step.End) before = tt
+forward-by bs p (Err f) before = (omega arith, omega (arith, before))

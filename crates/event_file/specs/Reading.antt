@@ -9,7 +9,7 @@
 use mathlib.Core.Path.{_≡_}
 use mathlib.Core.Bool.{Bool, false, cond, _||_}
 use mathlib.Core.List.{List}
-use Prim.Native.Nat.{ℕ, zero, suc, _+_, _*_, _/_, _%_}
+use Prim.Native.Nat.{ℕ, zero, suc, _+_, _*_, _/_, _%_, _<_, _≤_}
 use lib.Dec.{eqb, leb}
 use lib.ListN.{length, take, drop}
 use Rattle.std.specs.declared.result.Result.{Result}
@@ -91,3 +91,9 @@ Label-is l (Ok (entry-at b n (event e))) = label-of e ≡ l
 Label-is l (Ok (entry-at b n blank)) = Unit {0}
 Label-is l (Ok end) = Unit {0}
 Label-is l (Err f) = Unit {0}
+
+-- A step that is not the end goes forward from p to q, and never past the n entries that there are.
+abbrev pub Forward : ℕ → ℕ → ℕ → Result Outcome Fault → Type 0
+Forward p q n (Ok (entry-at b k t)) = (p < q) × (q ≤ n)
+Forward p q n (Ok end) = Unit {0}
+Forward p q n (Err f) = (p < q) × (q ≤ n)

@@ -4,11 +4,7 @@ ghost use Prim.Native.Nat.{_+_, _*_, _^_, _<_, _≤_};
 ghost use lib.ListN.{length};
 ghost use Rattle.event_file.specs.Blocks.{block-of, entry-of};
 ghost use Rattle.event_file.specs.Entries.{shown-answer};
-<<<<<<< HEAD
-ghost use Rattle.event_file.specs.Reading.{Label-is, blank-before, check-at, entry-told, label-at, placed, shown-step, step-after, step-at};
-=======
 ghost use Rattle.event_file.specs.Reading.{Forward, Label-is, Opened, blank-before, check-at, entry-told, label-at, placed, places, shown-step, step-after, step-at};
->>>>>>> be79937 (State reading as the relation between an event and its bytes; describe the format)
 ghost use Rattle.event_file.specs.Laws.{Same-entries};
 use crate::block::BLOCK_BYTES;
 use crate::block::BLOCK_ENTRIES;
@@ -128,6 +124,7 @@ impl<'a> Reader<'a> {
     pub fn next_entry(&mut self) -> Result<Step<'a>, Fault>
         ensures answer { λ r. ⌜ shown-step r ≡ step-at (now (now (self .entry) .bytes)) (now (self .entry) .position) ⌝ }
         ensures position { λ r. ⌜ now (self .exit) .position ≡ step-after (now (now (self .entry) .bytes)) (now (self .entry) .position) ⌝ }
+        ensures forward { λ r. ⌜ Forward (now (self .entry) .position) (now (self .exit) .position) (places (now (now (self .entry) .bytes))) (shown-step r) ⌝ }
         ensures kept { λ r. ⌜ now (self .exit) .bytes ≡ now (self .entry) .bytes ⌝ }
         ensures label { λ r. ⌜ Label-is (label-at (now (now (self .entry) .bytes)) (now (self .entry) .position)) (shown-step r) ⌝ }
         ensures entries { λ _. ⌜ Same-entries ⌝ }

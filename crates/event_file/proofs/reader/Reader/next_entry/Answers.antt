@@ -1,5 +1,6 @@
 use mathlib.Core.Path.{refl}
-use Rattle.event_file.proofs.Steps.{ended-at, ended-after, stopped-at, stopped-after, went-at, went-after}
+use native.Mathlib.Omega.{arith}
+use Rattle.event_file.proofs.Steps.{ended-at, ended-after, forward-by, stopped-at, stopped-after, went-at, went-after}
 use Rattle.event_file.proofs.Labels.{labelled}
 use Rattle.event_file.proofs.SameEntries.{same-entries}
 use Rattle.event_file.proofs.reader.Reader.next_entry.Needs as need
@@ -11,6 +12,7 @@ returns-then-self-end c =
     record {
       answer = ended-at bs p (c .if-self-end .taken);
       position = ended-after bs p (c .if-self-end .taken);
+      forward = tt;
       kept = refl;
       label = tt;
       entries = same-entries;
@@ -24,6 +26,7 @@ returns-in-Err c =
     record {
       answer = stopped-at bs p b (c .in-Err .refusal) (c .if-self-end .left) (c .block-at-block .ensures .value) (c .in-Err .ensures tt .answer);
       position = stopped-after bs p b (c .in-Err .refusal) (c .if-self-end .left) (c .block-at-block .ensures .value) (c .in-Err .ensures tt .answer);
+      forward = (c .if-self-end .left, omega arith);
       kept = refl;
       label = tt;
       entries = same-entries;
@@ -37,6 +40,7 @@ returns c =
     record {
       answer = went-at bs p b _ (c .in-rest .field-0) (c .if-self-end .left) (c .block-at-block .ensures .value) (c .in-rest .ensures tt .answer) (c .step-in .ensures .answer);
       position = went-after bs p b (c .in-rest .field-0) (c .if-self-end .left) (c .block-at-block .ensures .value) (c .in-rest .ensures tt .answer);
+      forward = forward-by bs p (c .step-in .result) (c .if-self-end .left);
       kept = refl;
       label = labelled bs p (went-at bs p b _ (c .in-rest .field-0) (c .if-self-end .left) (c .block-at-block .ensures .value) (c .in-rest .ensures tt .answer) (c .step-in .ensures .answer));
       entries = same-entries;
