@@ -1,6 +1,6 @@
 -- One check after the other gives the first refusal of them all.
 use mathlib.Core.Path.{_≡_, refl, sym, ap, _∙_}
-use mathlib.Core.List.{List, [], _∷_}
+use mathlib.Core.List.{List, [], _∷_, _++_}
 use mathlib.Core.Bool.{Bool, true, false, cond}
 use Prim.Native.Nat.{ℕ}
 use native.Mathlib.Omega.{arith}
@@ -8,7 +8,7 @@ use Rattle.std.specs.declared.option.Option.{Option}
 use Rattle.std.specs.declared.option.Option.the-variants.{Some, None}
 use Rattle.std.specs.declared.result.Result.{Result}
 use Rattle.std.specs.declared.result.Result.the-variants.{Ok, Err}
-use Rattle.refusal.specs.Checks.{Check, first, unless}
+use Rattle.refusal.specs.Checks.{Check, first, unless, passing, then-do, in-turn, all-of}
 use Rattle.refusal.specs.declared.Refusal.{Refusal}
 
 -- a check alone: whether it holds, by what it gave
@@ -41,3 +41,26 @@ still-refused (Some r) a b e is = let same : r ≡ e = cc in ap Err (sym same)
 pub carried : {A B : Type 0} (o : Option Refusal) (a x : A) (f : A → B) → unless o a ≡ Ok x → Ok (f x) ≡ unless o (f a)
 carried None a x f is = let same : a ≡ x = cc in ap (λ y. Ok (f y)) (sym same)
 carried (Some r) a x f is = let no : _≡_ {A = ℕ} 0 1 = cc in absurd (omega arith)
+
+-- the first of two lists of checks
+abbrev or-first : Option Refusal → Option Refusal → Option Refusal
+or-first None p = p
+or-first (Some r) p = Some r
+
+first-by : (b : Bool) (r : Refusal) (o p q : Option Refusal) → q ≡ or-first o p → cond b (Some r) q ≡ or-first (cond b (Some r) o) p
+first-by true r o p q is = refl
+first-by false r o p q is = is
+
+first-append : (ks ls : List Check) → first (ks ++ ls) ≡ or-first (first ks) (first ls)
+first-append [] ls = refl
+first-append (k ∷ ks) ls = first-by (k .holds) (k .says) (first ks) (first ls) (first (ks ++ ls)) (first-append ks ls)
+
+-- checks made in turn give the first refusal of them all
+then-first : (o p : Option Refusal) → then-do (unless o (tt {0})) (λ _. unless p (tt {0})) ≡ unless (or-first o p) (tt {0})
+then-first None p = refl
+then-first (Some r) p = refl
+
+pub in-turn-is : (ks : List Check) (more : List (List Check)) → in-turn ks more ≡ passing (all-of ks more)
+in-turn-is ks [] = refl
+in-turn-is ks (ls ∷ more) =
+    ap (λ r. then-do (passing ks) (λ _. r)) (in-turn-is ls more) ∙ then-first (first ks) (first (all-of ls more)) ∙ ap (λ o. unless o (tt {0})) (sym (first-append ks (all-of ls more)))

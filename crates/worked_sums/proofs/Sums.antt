@@ -13,9 +13,12 @@ worked-sums = record {
   months-239 = refl;
   down = refl;
   up = refl;
-  flat-sheet = refl;
-  dated-sheet = refl;
-  indexed-sheet = refl;
+  on-flat = refl;
+  on-dated = refl;
+  on-indexed = refl;
   day-after-launch = refl;
   year-after-launch = refl;
+  contributed = refl;
+  seven-down = refl;
+  seven-up = refl;
 }

@@ -1,0 +1,24 @@
+// The book of one zone: its types, and the laws of a zone's life.
+mod adding;
+mod asking;
+mod bill;
+mod checks;
+mod enter;
+pub mod entries;
+pub mod examples;
+mod increase;
+pub mod launched;
+pub mod launched_calls;
+pub mod laws;
+pub mod levy;
+pub mod limits;
+pub mod lines;
+mod order;
+pub mod prepared;
+pub mod prepared_calls;
+pub mod refused;
+mod share;
+mod tables;
+mod weights;
+pub mod written;
+pub mod zone;

@@ -1,0 +1,110 @@
+// All checks of each call, in their order, on what is borrowed: nothing is moved or written before they pass.
+ghost use mathlib.Core.Path.{_≡_};
+ghost use mathlib.Core.List.{[], _∷_};
+ghost use lib.Dec.{ltb};
+ghost use Prim.Native.Nat.{_≤_};
+ghost use lib.ListN.{length, take};
+ghost use Rattle.refusal.specs.Checks.{_⇒_, in-turn};
+ghost use Rattle.refusal.specs.declared.Refusal.the-variants.{StripTooShort};
+ghost use Rattle.book.specs.Refusals.{tables-check, date-checks, index-check, roll-checks, register-checks, price-check, coefficient-check};
+ghost use Rattle.book.specs.Increases.{lines-billed};
+ghost use Rattle.book.specs.Passing.{tables};
+use crate::asking::check_coefficients;
+use crate::asking::check_price;
+use crate::asking::check_prices;
+use crate::bill::lines_billed;
+use crate::checks::check_date;
+use crate::checks::check_index;
+use crate::checks::check_register;
+use crate::checks::check_roll;
+use crate::checks::check_strip;
+use crate::entries::RegisterEntry;
+use crate::entries::RollEntry;
+use crate::tables::check_tables;
+use crate::zone::Event;
+use crate::zone::Figures;
+use refusal::Refusal;
+use tariff::tariff::Tariff;
+
+// A launch: tables and date.
+pub(crate) fn check_launch(
+    figures: &Figures,
+    roll: &[RollEntry],
+    register: &[RegisterEntry],
+    date: u32,
+) -> Result<(), Refusal>
+    ensures answer { λ r. ⌜ r ≡ in-turn (tables-check (now (figures .entry)) (tables (now (roll .entry)) (now (register .entry))) ∷ []) (date-checks (now (figures .entry)) date ∷ []) ⌝ }
+{
+    check_tables(figures, roll, register)?;
+    check_date(figures, date)
+}
+
+// A commitment or raise before the launch: tables, date and roll.
+pub(crate) fn check_subscription(
+    figures: &Figures,
+    roll: &[RollEntry],
+    register: &[RegisterEntry],
+    event: &Event,
+) -> Result<(), Refusal>
+    ensures answer { λ r. ⌜ r ≡ in-turn (tables-check (now (figures .entry)) (tables (now (roll .entry)) (now (register .entry))) ∷ []) (date-checks (now (figures .entry)) (now (event .entry) .date) ∷ roll-checks (now (figures .entry)) (tables (now (roll .entry)) (now (register .entry))) (now (event .entry)) ∷ []) ⌝ }
+{
+    check_tables(figures, roll, register)?;
+    check_date(figures, event.date)?;
+    check_roll(figures, roll, register, event)
+}
+
+// An opening or cabling: tables, date, index, register, price and strip. Each operator gets a line.
+pub(crate) fn check_installation<T: Tariff>(
+    sheet: &T,
+    figures: &Figures,
+    launch_date: u32,
+    roll: &[RollEntry],
+    register: &[RegisterEntry],
+    places: usize,
+    object: &RegisterEntry,
+) -> Result<(), Refusal>
+    ensures answer { λ r. ⌜ r ≡ in-turn (tables-check (now (figures .entry)) (tables (now (roll .entry)) (now (register .entry))) ∷ []) (date-checks (now (figures .entry)) (now (object .entry) .installed) ∷ (index-check «launch_date» (now (object .entry) .installed) ∷ []) ∷ register-checks (now (figures .entry)) (tables (now (roll .entry)) (now (register .entry))) (now (object .entry)) ∷ (price-check (meaning (now (sheet .entry))) (now (object .entry) ∷ []) ∷ []) ∷ ((ltb places (now (figures .entry) .operators) ⇒ StripTooShort) ∷ []) ∷ []) ⌝ }
+{
+    check_tables(figures, roll, register)?;
+    check_date(figures, object.installed)?;
+    check_index(launch_date, object.installed)?;
+    check_register(figures, roll, register, object)?;
+    check_price(sheet, object)?;
+    check_strip(places, figures.operators)
+}
+
+// A commitment or raise that bills: tables, date, index, roll, prices, coefficients and strip.
+pub(crate) fn check_billing<T: Tariff>(
+    sheet: &T,
+    figures: &Figures,
+    launch_date: u32,
+    roll: &[RollEntry],
+    register: &[RegisterEntry],
+    places: usize,
+    event: &Event,
+) -> Result<(), Refusal>
+    ensures answer { λ r. ⌜ r ≡ in-turn (tables-check (now (figures .entry)) (tables (now (roll .entry)) (now (register .entry))) ∷ []) (date-checks (now (figures .entry)) (now (event .entry) .date) ∷ (index-check «launch_date» (now (event .entry) .date) ∷ []) ∷ roll-checks (now (figures .entry)) (tables (now (roll .entry)) (now (register .entry))) (now (event .entry)) ∷ (price-check (meaning (now (sheet .entry))) (take (now (figures .entry) .objects) (now (register .entry))) ∷ []) ∷ (coefficient-check (meaning (now (sheet .entry))) (now (event .entry) .date) (take (now (figures .entry) .objects) (now (register .entry))) ∷ []) ∷ ((ltb places (lines-billed (now (event .entry) .date) (take (now (figures .entry) .objects) (now (register .entry)))) ⇒ StripTooShort) ∷ []) ∷ []) ⌝ }
+{
+    check_tables(figures, roll, register)?;
+    check_date(figures, event.date)?;
+    check_index(launch_date, event.date)?;
+    check_roll(figures, roll, register, event)?;
+    check_bill(sheet, register, figures.objects, event.date, places)
+}
+
+// What a bill asks of its sheet and strip, over the counted objects.
+fn check_bill<T: Tariff>(
+    sheet: &T,
+    register: &[RegisterEntry],
+    counted: usize,
+    date: u32,
+    places: usize,
+) -> Result<(), Refusal>
+    requires { ⌜ counted ≤ length (now register) ⌝ }
+    ensures answer { λ r. ⌜ r ≡ in-turn (price-check (meaning (now (sheet .entry))) (take counted (now (register .entry))) ∷ []) ((coefficient-check (meaning (now (sheet .entry))) date (take counted (now (register .entry))) ∷ []) ∷ ((ltb places (lines-billed date (take counted (now (register .entry)))) ⇒ StripTooShort) ∷ []) ∷ []) ⌝ }
+{
+    let objects = &register[0..counted];
+    check_prices(sheet, objects)?;
+    check_coefficients(sheet, date, objects)?;
+    check_strip(places, lines_billed(objects, date))
+}
