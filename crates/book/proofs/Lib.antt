@@ -30,5 +30,8 @@ pub mod Subscribing
 pub mod Joining
 pub mod Admitting
 pub mod Crediting
+pub mod Afterwards
+pub mod Due
 pub mod Installing
 pub mod Billed
+pub mod Settled

@@ -6,9 +6,14 @@ ghost use Prim.Native.Nat.{_≤_};
 ghost use lib.ListN.{length, take};
 ghost use Rattle.refusal.specs.Checks.{_⇒_, in-turn};
 ghost use Rattle.refusal.specs.declared.Refusal.the-variants.{StripTooShort};
-ghost use Rattle.book.specs.Refusals.{tables-check, date-checks, index-check, roll-checks, register-checks, price-check, coefficient-check};
-ghost use Rattle.book.specs.Increases.{lines-billed};
+ghost use Rattle.book.specs.Refusals.{tables-check, date-checks, index-check, roll-checks, register-checks, price-check, coefficient-check, entry-faults, object-faults};
+ghost use Rattle.book.specs.Increases.{addition-in, lines-billed, lines-shared};
+ghost use mathlib.Core.Bool.{false};
+ghost use Rattle.book.specs.Lists.{any, one-of};
+ghost use Rattle.book.specs.Limits.{most-index, most-objects, most-operators, most-tranches};
+ghost use Rattle.book.specs.Members.{addition, members-of};
 ghost use Rattle.book.specs.Passing.{tables};
+use crate::adding::increase_of;
 use crate::asking::check_coefficients;
 use crate::asking::check_price;
 use crate::asking::check_prices;
@@ -20,6 +25,8 @@ use crate::checks::check_roll;
 use crate::checks::check_strip;
 use crate::entries::RegisterEntry;
 use crate::entries::RollEntry;
+use crate::increase::Increase;
+use crate::share::lines_shared;
 use crate::tables::check_tables;
 use crate::zone::Event;
 use crate::zone::Figures;
@@ -107,4 +114,59 @@ fn check_bill<T: Tariff>(
     check_prices(sheet, objects)?;
     check_coefficients(sheet, date, objects)?;
     check_strip(places, lines_billed(objects, date))
+}
+
+// A share-out: tables, roll, prices and strip. It has no date, and its coefficients were asked when it was billed.
+pub(crate) fn check_share_out<T: Tariff>(
+    sheet: &T,
+    figures: &Figures,
+    index: u32,
+    roll: &[RollEntry],
+    register: &[RegisterEntry],
+    places: usize,
+    event: &Event,
+) -> Result<(), Refusal>
+    requires index { ⌜ index ≤ most-index ⌝ }
+    requires operators { ⌜ now figures .operators ≤ most-operators ⌝ }
+    requires objects { ⌜ now figures .objects ≤ most-objects ⌝ }
+    ensures answer { λ r. ⌜ r ≡ in-turn (tables-check (now (figures .entry)) (tables (now (roll .entry)) (now (register .entry))) ∷ []) (roll-checks (now (figures .entry)) (tables (now (roll .entry)) (now (register .entry))) (now (event .entry)) ∷ (price-check (meaning (now (sheet .entry))) (take (now (figures .entry) .objects) (now (register .entry))) ∷ []) ∷ ((ltb places (lines-shared (meaning (now (sheet .entry))) (addition index (now (event .entry)) (members-of (take (now (figures .entry) .operators) (now (roll .entry))))) (take (now (figures .entry) .objects) (now (register .entry))) (members-of (take (now (figures .entry) .operators) (now (roll .entry))))) ⇒ StripTooShort) ∷ []) ∷ []) ⌝ }
+{
+    check_tables(figures, roll, register)?;
+    check_roll(figures, roll, register, event)?;
+    let increase = increase_of(event, index, roll, figures.operators);
+    check_shares(
+        sheet,
+        increase,
+        register,
+        figures.objects,
+        roll,
+        figures.operators,
+        places,
+    )
+}
+
+// What a share-out asks of its sheet and strip, over the counted objects and operators.
+fn check_shares<T: Tariff>(
+    sheet: &T,
+    increase: Increase,
+    register: &[RegisterEntry],
+    objects: usize,
+    roll: &[RollEntry],
+    operators: usize,
+    places: usize,
+) -> Result<(), Refusal>
+    requires few { ⌜ increase .tranches ≤ most-tranches ⌝ }
+    requires index { ⌜ increase .index ≤ most-index ⌝ }
+    requires objects { ⌜ objects ≤ most-objects ⌝ }
+    requires operators { ⌜ operators ≤ most-operators ⌝ }
+    requires long_register { ⌜ objects ≤ length (now register) ⌝ }
+    requires long_roll { ⌜ operators ≤ length (now roll) ⌝ }
+    requires register { ⌜ any (λ o. one-of (object-faults o)) (take objects (now register)) ≡ false ⌝ }
+    requires roll { ⌜ any (λ e. one-of (entry-faults e)) (take operators (now roll)) ≡ false ⌝ }
+    ensures answer { λ r. ⌜ r ≡ in-turn (price-check (meaning (now (sheet .entry))) (take objects (now (register .entry))) ∷ []) (((ltb places (lines-shared (meaning (now (sheet .entry))) (addition-in increase) (take objects (now (register .entry))) (members-of (take operators (now (roll .entry))))) ⇒ StripTooShort) ∷ []) ∷ []) ⌝ }
+{
+    let counted = &register[..objects];
+    check_prices(sheet, counted)?;
+    let lines = lines_shared(sheet, increase, counted, &roll[..operators]);
+    check_strip(places, lines)
 }

@@ -9,7 +9,7 @@ ghost use Rattle.book.specs.Lists.{any, one-of, total, written};
 ghost use Rattle.book.specs.Members.{members-of};
 ghost use Rattle.book.specs.Sharing.{object-contribution, serves, credits, left-unshared};
 ghost use Rattle.book.specs.Answers.{credited-roll};
-ghost use Rattle.book.specs.Increases.{addition-in};
+ghost use Rattle.book.specs.Increases.{addition-in, amount-lines, lines-shared};
 ghost use Rattle.book.specs.Refusals.{entry-faults, object-faults};
 use crate::bill::line_of;
 use crate::bill::unit_contribution;
@@ -48,6 +48,7 @@ pub(crate) const fn is_due(amount: u64, weight: u64) -> bool
 // What nobody is there to take.
 const fn unshared_of(whole: u32, contributed: u64) -> u64
     ensures value { λ r. ⌜ r ≡ cond (eqb whole 0) contributed 0 ⌝ }
+    ensures most { λ r. ⌜ r ≤ contributed ⌝ }
 {
     if whole == 0 { contributed } else { 0 }
 }
@@ -74,6 +75,7 @@ pub(crate) fn share_out<T: Tariff>(
     ensures number { λ r. ⌜ r .«credit_lines» ≡ length (credits (meaning (now (sheet .entry))) (addition-in increase) (now (register .entry)) (members-of (now (roll .entry)))) ⌝ }
     ensures strip { λ _. ⌜ now (strip .exit) ≡ written (credits (meaning (now (sheet .entry))) (addition-in increase) (now (register .entry)) (members-of (now (roll .entry)))) (now (strip .entry)) ⌝ }
     ensures roll { λ _. ⌜ now (roll .exit) ≡ credited-roll (meaning (now (sheet .entry))) (addition-in increase) (now (register .entry)) (now (roll .entry)) ⌝ }
+    ensures most { λ r. ⌜ (r .contributed ≤ 102400000000000000) × (r .credited ≤ 1638400000000000000) × (r .unshared ≤ 102400000000000000) × (r .«credit_lines» ≤ 16384) ⌝ }
 {
     let whole = whole_weight(sheet, roll, increase.index);
     let mut contributed = 0u64;
@@ -102,4 +104,45 @@ pub(crate) fn share_out<T: Tariff>(
         unshared: unshared_of(whole, contributed),
         credit_lines: next as u64,
     }
+}
+
+// How many credit lines an amount has: one for each operator that weighs something.
+fn lines_of_amount<T: Tariff>(sheet: &T, amount: u64, roll: &[RollEntry], index: u32) -> usize
+    requires index { ⌜ index ≤ most-index ⌝ }
+    requires few { ⌜ length (now roll) ≤ most-operators ⌝ }
+    requires sound { ⌜ any (λ e. one-of (entry-faults e)) (now roll) ≡ false ⌝ }
+    ensures number { λ r. ⌜ r ≡ amount-lines (meaning (now (sheet .entry))) index amount (members-of (now (roll .entry))) ⌝ }
+    ensures most { λ r. ⌜ r ≤ most-operators ⌝ }
+{
+    let mut lines = 0usize;
+    for member in roll {
+        let weight = weight_to(sheet, &member.tranches, index);
+        if is_due(amount, weight) {
+            lines += 1;
+        }
+    }
+    lines
+}
+
+// How many credit lines a share-out writes.
+pub(crate) fn lines_shared<T: Tariff>(
+    sheet: &T,
+    increase: Increase,
+    register: &[RegisterEntry],
+    roll: &[RollEntry],
+) -> usize
+    requires few { ⌜ increase .tranches ≤ most-tranches ⌝ }
+    requires index { ⌜ increase .index ≤ most-index ⌝ }
+    requires objects { ⌜ length (now register) ≤ most-objects ⌝ }
+    requires operators { ⌜ length (now roll) ≤ most-operators ⌝ }
+    requires register { ⌜ any (λ o. one-of (object-faults o)) (now register) ≡ false ⌝ }
+    requires roll { ⌜ any (λ e. one-of (entry-faults e)) (now roll) ≡ false ⌝ }
+    ensures number { λ r. ⌜ r ≡ lines-shared (meaning (now (sheet .entry))) (addition-in increase) (now (register .entry)) (members-of (now (roll .entry))) ⌝ }
+{
+    let mut lines = 0usize;
+    for object in register {
+        let amount = contribution_of(sheet, increase, object);
+        lines += lines_of_amount(sheet, amount, roll, increase.index);
+    }
+    lines
 }

@@ -9,7 +9,9 @@ use Rattle.book.specs.Lists.{written}
 use Rattle.book.specs.Increases.{addition-in}
 use Rattle.book.specs.declared.entries.RollEntry.{RollEntry}
 use Rattle.book.specs.declared.entries.RegisterEntry.{RegisterEntry}
-use Rattle.book.proofs.Totals.{all-also}
+use Rattle.book.specs.Members.{members-of, member-of}
+use Rattle.book.proofs.Totals.{all-also, length-each}
+use Rattle.book.proofs.Counting.{lines-counted}
 use Rattle.book.proofs.Soundness.{all-sound, faultless-at}
 use Rattle.book.proofs.Crediting.{sums, outer-start, credit-place, inner-yes, inner-no, inner-done, object-room, outer-next, outer-done, turn-rate, turn-balance, turn-whole, turn-part, credits-are, entries-are, unshared-is}
 use Rattle.book.proofs.share.share_out.Given as given
@@ -124,4 +126,13 @@ returns g c =
       number = all .0 ∙ ap length e;
       strip = all .1 ∙ ap (λ ls. written ls (c .args .strip .now)) e;
       roll = all .2 ∙ entries-are m a whole (c .args .register .now) (c .args .roll .now) is;
+      most =
+          let given = c .loop-object .inv .given-most in
+          let sum = c .loop-object .inv .sum-most in
+          let count = lines-counted .credited m a (c .args .register .now) (members-of (c .args .roll .now)) in
+          let number = all .0 ∙ ap length e in
+          let members = length-each member-of (c .args .roll .now) in
+          let few : length (members-of (c .args .roll .now)) ≤ 16 = omega (arith, members, c .pre .operators) in
+          let product : length (members-of (c .args .roll .now)) * length (c .args .register .now) ≤ 16 * 1024 = mul-le-mul few (c .pre .objects) in
+          (omega (arith, given, c .pre .objects), omega (arith, sum, c .pre .objects), omega (arith, given, c .unshared-of .ensures .most, c .pre .objects), omega (arith, number, count, product));
     }
