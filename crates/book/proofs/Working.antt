@@ -34,6 +34,7 @@ refusals-in-order = record {
   tables-first = refl;
   dates = refl;
   roll = refl;
+  sixteen = refl;
   register = refl;
   full = refl;
   sheet = refl;

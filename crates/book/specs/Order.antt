@@ -25,6 +25,10 @@ short-tables = record { figures = launched-zone .figures; phase = launched-zone 
 abbrev pub full-roll : State
 full-roll = lived sheet-up (blank 4 3) (commitment 20170301 1 4 on 0 ∷ commitment 20170301 2 2 on 0 ∷ commitment 20170301 3 2 on 0 ∷ commitment 20170301 4 2 on 0 ∷ launch 20170315 on 0 ∷ [])
 
+-- A roll of seventeen places, sixteen of them counted.
+abbrev pub sixteen-operators : State
+sixteen-operators = lived sheet-up (blank 17 1) (each (λ n. commitment 20170301 n 1 on 0) (1 ∷ 2 ∷ 3 ∷ 4 ∷ 5 ∷ 6 ∷ 7 ∷ 8 ∷ 9 ∷ 10 ∷ 11 ∷ 12 ∷ 13 ∷ 14 ∷ 15 ∷ 16 ∷ []))
+
 abbrev pub full-register : State
 full-register = lived sheet-up launched-zone (opening 20180101 1 1 on 2 ∷ opening 20180101 2 1 on 2 ∷ opening 20180101 3 1 on 2 ∷ [])
 
@@ -48,6 +52,8 @@ pub record Refusals-in-order (holed : Meaning) : Type 0 where
   -- 5 before 6, 6 before 8 and 7, 7 before 10; a stranger's raise; a raise to the present rate; no place; an empty register needs no strip
   pub roll : each-told sheet-up full-roll 0 (raise 20170401 0 0 ∷ raise 20170401 9 0 ∷ commitment 20170401 1 21 ∷ commitment 20170401 1 4 ∷ raise 20170401 9 3 ∷ raise 20170401 1 4 ∷ commitment 20170401 9 4 ∷ raise 20170401 1 5 ∷ []) ≡
       Some 5 ∷ Some 6 ∷ Some 6 ∷ Some 7 ∷ Some 8 ∷ Some 9 ∷ Some 10 ∷ Some 0 ∷ []
+  -- no seventeenth operator, though there is a place; one of the sixteen may raise
+  pub sixteen : each-told sheet-up sixteen-operators 0 (commitment 20170301 17 1 ∷ raise 20170301 16 2 ∷ []) ≡ Some 10 ∷ Some 0 ∷ []
   -- 11 before 12, 12 before 14, 14 before 16
   pub register : each-told holed launched-zone 0 (cabling 20170401 0 false 0 ∷ cabling 20170401 5 false 0 ∷ cabling 20170401 5 false 1 ∷ opening 20170401 5 1 ∷ []) ≡
       Some 11 ∷ Some 12 ∷ Some 14 ∷ Some 16 ∷ []

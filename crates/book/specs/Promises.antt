@@ -1,5 +1,6 @@
 -- What the calls of a zone promise of their results.
 --   prepared, launched-on, levied-on   the three states of a zone, with its tables, as states of a life
+--   Lives-begin                        a life begins, whatever the tables, and its accounts hold
 --   Lives-on                           a life goes on by a call, and its accounts hold
 --   Cuts-fairly                        an accepted raise and its parts, however it is cut, show units that differ by little
 use mathlib.Core.List.{List, [], _∷_}
@@ -35,6 +36,10 @@ levied-on levy t = record { figures = levy .figures; phase = levied (levy .«lau
 abbrev pub answered : {Z Y : Type 0} → (Z → Tables → State) → Tables → List Line → Result Z (Refused Y) → Answer
 answered state t lines (Ok zone) = Ok (record { state = state zone t; lines = lines })
 answered state t lines (Err back) = Err (back .refusal)
+
+-- A life begins at a zone with tables of any length and content, and there the accounts hold.
+abbrev pub Lives-begin : Meaning → PreparedZone → Type 0
+Lives-begin m zone = (t : Tables) → Life m [] (prepared zone t) × Accounted (λ lines. lines) m [] (prepared zone t)
 
 -- Every life that leads to a state goes on by a call to what its answer leaves, and there the accounts hold.
 abbrev pub Lives-on : Meaning → State → Call → Answer → Type 0

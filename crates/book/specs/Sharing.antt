@@ -1,9 +1,9 @@
 -- How contributions are shared among the operators that the event finds.
 --   object-contribution   what an object contributes
---   to-share      the amount of an object that is divided, and times: how often a share of it counts
---   serves        whether an amount and a weight are both above 0
---   share         an operator's share of an object; due: 1 where it has one, else 0
---   credits       the credit lines of a share-out
+--   to-share, times       the amount of an object that is divided, and how often a share of it counts
+--   serves                whether an amount and a weight are both above 0
+--   share, due            an operator's share of an object; 1 where it has one, else 0
+--   credits               the credit lines of a share-out
 use mathlib.Core.List.{List, [], _∷_}
 use mathlib.Core.Bool.{Bool, true, false, cond}
 use Prim.Native.Nat.{ℕ, zero, suc, _*_}

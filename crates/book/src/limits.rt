@@ -1,4 +1,6 @@
 // The limits of a zone, each named once.
+ghost use mathlib.Core.Path.{_≡_};
+ghost use Rattle.book.specs.Limits.{most-operators, most-objects, most-index, years, most-tranches, most-dwellings, most-amount};
 
 // Operators that a roll can count.
 pub const MOST_OPERATORS: usize = 16;
@@ -20,3 +22,36 @@ pub const MOST_DWELLINGS: u32 = 10_000;
 
 // Micro-euros of a balance or a total, and the number of a count.
 pub const MOST_AMOUNT: u64 = 4_000_000_000_000_000_000;
+
+// All of them in one value.
+#[derive(Clone, Copy)]
+pub struct Limits {
+    pub operators: usize,
+    pub objects: usize,
+    pub index: u32,
+    pub years: usize,
+    pub tranches: u32,
+    pub dwellings: u32,
+    pub amount: u64,
+}
+
+// The limits are those that the definitions have.
+pub const fn zone_limits() -> Limits
+    ensures operators { λ r. ⌜ r .operators ≡ most-operators ⌝ }
+    ensures objects { λ r. ⌜ r .objects ≡ most-objects ⌝ }
+    ensures index { λ r. ⌜ r .index ≡ most-index ⌝ }
+    ensures years { λ r. ⌜ r .years ≡ years ⌝ }
+    ensures tranches { λ r. ⌜ r .tranches ≡ most-tranches ⌝ }
+    ensures dwellings { λ r. ⌜ r .dwellings ≡ most-dwellings ⌝ }
+    ensures amount { λ r. ⌜ r .amount ≡ most-amount ⌝ }
+{
+    Limits {
+        operators: MOST_OPERATORS,
+        objects: MOST_OBJECTS,
+        index: MOST_INDEX,
+        years: YEARS,
+        tranches: MOST_TRANCHES,
+        dwellings: MOST_DWELLINGS,
+        amount: MOST_AMOUNT,
+    }
+}

@@ -6,7 +6,8 @@ ghost use Rattle.tariff.specs.Meaning.{Meaning, Lawful};
 ghost use Rattle.book.specs.Answers.{launching, subscription};
 ghost use Rattle.book.specs.Calls.{commitment as call-commitment, raise as call-raise, launch as call-launch, commitment-event, raise-event};
 ghost use Rattle.book.specs.Passing.{tables};
-ghost use Rattle.book.specs.Promises.{prepared, launched-on, answered, Lives-on};
+ghost use Rattle.book.specs.Zone.{no-figures};
+ghost use Rattle.book.specs.Promises.{prepared, launched-on, answered, Lives-begin, Lives-on};
 use crate::adding::increase_of;
 use crate::enter::enter;
 use crate::entries::RegisterEntry;
@@ -19,8 +20,29 @@ use crate::refused::Refused;
 use crate::zone::Change;
 use crate::zone::Event;
 use crate::zone::Figures;
+use crate::zone::Totals;
 
 impl PreparedZone {
+    // An empty zone: no date yet, no entry counted, nothing moved.
+    pub const fn new() -> PreparedZone
+        ensures value { λ r. ⌜ r .figures ≡ no-figures ⌝ }
+        ensures life { λ r. ⌜ ((m : Meaning) → Lawful m → Lives-begin m r) ⌝ }
+    {
+        PreparedZone {
+            figures: Figures {
+                last: None,
+                operators: 0,
+                objects: 0,
+                totals: Totals {
+                    contributed: 0,
+                    credited: 0,
+                    unshared: 0,
+                    credit_lines: 0,
+                },
+            },
+        }
+    }
+
     // An operator commits itself to a rate, without charge.
     pub fn commitment(
         self,
