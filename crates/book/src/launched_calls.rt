@@ -28,7 +28,16 @@ use tariff::tariff::Tariff;
 
 impl LaunchedZone {
     // An operator commits itself to a rate and is billed for every object; the levy is to be shared out.
-    pub fn commitment<T: Tariff>(self, sheet: &T, roll: &[RollEntry], register: &[RegisterEntry], strip: &mut [Line], date: u32, operator: u32, rate: u32) -> Result<Written<OpenLevy>, Refused<LaunchedZone>>
+    pub fn commitment<T: Tariff>(
+        self,
+        sheet: &T,
+        roll: &[RollEntry],
+        register: &[RegisterEntry],
+        strip: &mut [Line],
+        date: u32,
+        operator: u32,
+        rate: u32,
+    ) -> Result<Written<OpenLevy>, Refused<LaunchedZone>>
         ensures answer { λ r. ⌜ written-answer levied-on (tables (now (roll .entry)) (now (register .entry))) (now (strip .exit)) r ≡ billing (meaning (now (sheet .entry))) (self .figures) (self .«launch_date») (tables (now (roll .entry)) (now (register .entry))) (length (now (strip .entry))) (commitment-event date operator rate) ⌝ }
         ensures strip { λ _. ⌜ now (strip .exit) ≡ strip-after (now (strip .entry)) (billing (meaning (now (sheet .entry))) (self .figures) (self .«launch_date») (tables (now (roll .entry)) (now (register .entry))) (length (now (strip .entry))) (commitment-event date operator rate)) ⌝ }
         ensures kept { λ r. ⌜ refused r (λ back. back .kept ≡ self) ⌝ }
@@ -44,7 +53,16 @@ impl LaunchedZone {
     }
 
     // An operator raises its rate and is billed for every object; the levy is to be shared out.
-    pub fn raise<T: Tariff>(self, sheet: &T, roll: &[RollEntry], register: &[RegisterEntry], strip: &mut [Line], date: u32, operator: u32, rate: u32) -> Result<Written<OpenLevy>, Refused<LaunchedZone>>
+    pub fn raise<T: Tariff>(
+        self,
+        sheet: &T,
+        roll: &[RollEntry],
+        register: &[RegisterEntry],
+        strip: &mut [Line],
+        date: u32,
+        operator: u32,
+        rate: u32,
+    ) -> Result<Written<OpenLevy>, Refused<LaunchedZone>>
         ensures answer { λ r. ⌜ written-answer levied-on (tables (now (roll .entry)) (now (register .entry))) (now (strip .exit)) r ≡ billing (meaning (now (sheet .entry))) (self .figures) (self .«launch_date») (tables (now (roll .entry)) (now (register .entry))) (length (now (strip .entry))) (raise-event date operator rate) ⌝ }
         ensures strip { λ _. ⌜ now (strip .exit) ≡ strip-after (now (strip .entry)) (billing (meaning (now (sheet .entry))) (self .figures) (self .«launch_date») (tables (now (roll .entry)) (now (register .entry))) (length (now (strip .entry))) (raise-event date operator rate)) ⌝ }
         ensures kept { λ r. ⌜ refused r (λ back. back .kept ≡ self) ⌝ }

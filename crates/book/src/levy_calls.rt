@@ -24,7 +24,13 @@ use tariff::tariff::Tariff;
 
 impl OpenLevy {
     // Credits the operators that the event found with their shares, then enters the event's tranches.
-    pub fn share_out<T: Tariff>(self, sheet: &T, roll: &mut [RollEntry], register: &[RegisterEntry], strip: &mut [Line]) -> Result<Written<LaunchedZone>, Refused<OpenLevy>>
+    pub fn share_out<T: Tariff>(
+        self,
+        sheet: &T,
+        roll: &mut [RollEntry],
+        register: &[RegisterEntry],
+        strip: &mut [Line],
+    ) -> Result<Written<LaunchedZone>, Refused<OpenLevy>>
         ensures answer { λ r. ⌜ written-answer launched-on (tables (now (roll .exit)) (now (register .entry))) (now (strip .exit)) r ≡ settling (meaning (now (sheet .entry))) (self .figures) (self .«launch_date») (tables (now (roll .entry)) (now (register .entry))) (length (now (strip .entry))) (self .event) ⌝ }
         ensures strip { λ _. ⌜ now (strip .exit) ≡ strip-after (now (strip .entry)) (settling (meaning (now (sheet .entry))) (self .figures) (self .«launch_date») (tables (now (roll .entry)) (now (register .entry))) (length (now (strip .entry))) (self .event)) ⌝ }
         ensures kept { λ r. ⌜ refused r (λ back. (back .kept ≡ self) × (now (roll .exit) ≡ now (roll .entry))) ⌝ }
@@ -33,7 +39,13 @@ impl OpenLevy {
         self.settled(sheet, roll, register, strip)
     }
 
-    fn settled<T: Tariff>(self, sheet: &T, roll: &mut [RollEntry], register: &[RegisterEntry], strip: &mut [Line]) -> Result<Written<LaunchedZone>, Refused<OpenLevy>>
+    fn settled<T: Tariff>(
+        self,
+        sheet: &T,
+        roll: &mut [RollEntry],
+        register: &[RegisterEntry],
+        strip: &mut [Line],
+    ) -> Result<Written<LaunchedZone>, Refused<OpenLevy>>
         ensures answer { λ r. ⌜ written-answer launched-on (tables (now (roll .exit)) (now (register .entry))) (now (strip .exit)) r ≡ settling (meaning (now (sheet .entry))) (self .figures) (self .«launch_date») (tables (now (roll .entry)) (now (register .entry))) (length (now (strip .entry))) (self .event) ⌝ }
         ensures strip { λ _. ⌜ now (strip .exit) ≡ strip-after (now (strip .entry)) (settling (meaning (now (sheet .entry))) (self .figures) (self .«launch_date») (tables (now (roll .entry)) (now (register .entry))) (length (now (strip .entry))) (self .event)) ⌝ }
         ensures kept { λ r. ⌜ refused r (λ back. (back .kept ≡ self) × (now (roll .exit) ≡ now (roll .entry))) ⌝ }
@@ -57,8 +69,14 @@ impl OpenLevy {
                 let increase = increase_of(&event, index, roll, figures.operators);
                 let objects = figures.objects;
                 let counted = &register[..objects];
-                let (moved, operators) =
-                    settle(sheet, increase, counted, roll, figures.operators, strip);
+                let (moved, operators) = settle(
+                    sheet,
+                    increase,
+                    counted,
+                    roll,
+                    figures.operators,
+                    strip,
+                );
                 let zone = LaunchedZone {
                     figures: Figures {
                         last: figures.last,

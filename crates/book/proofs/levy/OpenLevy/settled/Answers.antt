@@ -56,8 +56,7 @@ ghost-zone g c =
     let levy = c .args .self in
     let t = tables (c .args .roll .now) (c .args .register .now) in
     let a = able g (need.at·ghost-zone g c .In-Ok) in
-    let is = adds g (need.at·ghost-zone g c .After-increase-of-increase) in
-    (
+    let is = adds g (need.at·ghost-zone g c .After-increase-of-increase) in (
       few-entered m (levy .figures) (levy .«launch_date») t (length (c .args .strip .now)) (levy .event) _ _ is (a .fits .0) (c .settle-operators .ensures .number) (entered-blind _ (addition-in (c .increase-of-increase .result)) (counted-roll (levy .figures) t)),
       (levy .«few_objects», tt),
     )
