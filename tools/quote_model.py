@@ -4,7 +4,7 @@
   quote_model.py cases            prints the orders of crates/link_cases: every table entry at both edges of its row
   quote_model.py < LINES          prints the replies to lines as docs/FORMAT.md describes them
 
-The tables are typed from the network's published price annex, and sums are done with exact fractions, so that
+The tables are typed from the network's published prices, and sums are done with exact fractions, so that
 the proved program is held to something other than itself:
 
   tools/quote_model.py cases > crates/link_cases/stdin
