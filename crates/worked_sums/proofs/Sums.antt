@@ -21,4 +21,7 @@ worked-sums = record {
   contributed = refl;
   seven-down = refl;
   seven-up = refl;
+  quotas-2013 = refl;
+  quotas-2015 = refl;
+  quota-balances = refl;
 }

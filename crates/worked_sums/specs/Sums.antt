@@ -1,6 +1,7 @@
 -- Sums worked by hand, as facts of the definitions.
 use mathlib.Core.Path.{_≡_}
-use mathlib.Core.List.{List, [], _∷_}
+use mathlib.Core.List.{List, [], _∷_, _++_}
+use lib.ListN.{getD}
 use Prim.Native.Nat.{ℕ, _+_, _*_}
 use Rattle.std.specs.declared.option.Option.{Option}
 use Rattle.std.specs.declared.option.Option.the-variants.{Some, None}
@@ -20,10 +21,13 @@ use Rattle.tariff.specs.declared.kinds.Kind.the-variants.{Covered, Connectable,
 use Rattle.tariff.specs.declared.kinds.Coefficient.{Coefficient}
 use Rattle.sheet_parts.specs.declared.given.Prices.{Prices}
 use Rattle.book.specs.Lists.{total, each}
-use Rattle.book.specs.Members.{Member, Addition}
+use Rattle.book.specs.Members.{Member, Addition, weight-to}
 use Rattle.book.specs.Sharing.{object-contribution, credits}
-use Rattle.book.specs.Calls.{opened}
-use Rattle.book.specs.Sheets.{flat-sheet}
+use Rattle.book.specs.Calls.{opened, commitment, raise, launch, opening, share-out}
+use Rattle.book.specs.Zone.{counted-members}
+use Rattle.book.specs.Runs.{Step, _on_, lived}
+use Rattle.book.specs.Cases.{balances}
+use Rattle.book.specs.Sheets.{flat-sheet, blank}
 use Rattle.book.specs.declared.entries.RegisterEntry.{RegisterEntry}
 
 -- The coefficient of the common row after a number of months is so many 1,200ths.
@@ -65,6 +69,28 @@ cabinet = opened 20170401 7 300
 abbrev pub seven-get : (ℕ → ℕ → ℕ) → ℕ
 seven-get rounded = total (λ l. l .total) (credits (flat-sheet 15 (λ index. 100) rounded) eighth (cabinet ∷ []) seven)
 
+-- Weights that fall by the year. Operator 1 takes 15% and operator 2 takes 5% before a launch on 31 March 2012; a PM of
+-- 100 dwellings is opened the day after; operator 2 takes 10% more in 2013, operator 3 takes 5% in 2015.
+abbrev pub falling : ℕ → ℕ
+falling index = getD (100 ∷ 91 ∷ 82 ∷ 74 ∷ 67 ∷ []) index 0
+
+abbrev pub falling-sheet : Meaning
+falling-sheet = flat-sheet 15 falling five-up
+
+abbrev pub in-2013 : List Step
+in-2013 =
+    commitment 20120301 1 3 on 0 ∷ commitment 20120301 2 1 on 0 ∷ launch 20120331 on 0 ∷ opening 20120401 7 100 on 2 ∷
+    raise 20130501 2 3 on 2 ∷ []
+
+abbrev pub in-2015 : List Step
+in-2015 = in-2013 ++ (share-out on 2 ∷ commitment 20150601 3 1 on 2 ∷ [])
+
+-- What each operator weighs in a year index, at the end of some calls.
+abbrev pub weights-after : List Step → ℕ → List ℕ
+weights-after steps index =
+    let end = lived falling-sheet (blank 4 3) steps in
+    each (λ x. weight-to falling-sheet index (x .tranches)) (counted-members (end .figures) (end .tables))
+
 pub record Worked-sums : Type 0 where
   pub months-0 : in-1200ths 0 1200
   pub months-3 : in-1200ths 3 1230
@@ -86,3 +112,8 @@ pub record Worked-sums : Type 0 where
   pub contributed : object-contribution (flat-sheet 15 (λ index. 100) five-down) eighth cabinet ≡ 310950000
   pub seven-down : seven-get five-down + 4 ≡ 310950000
   pub seven-up : seven-get five-up ≡ 310950000 + 3
+  -- quotas of 15/20 and 5/20 of what comes in 2013, then 1500/2820 and 1320/2820 of what comes in 2015, by tranches of 5%
+  pub quotas-2013 : weights-after in-2013 2 ≡ (3 * 100) ∷ (1 * 100) ∷ []
+  pub quotas-2015 : weights-after in-2015 4 ≡ (3 * 100) ∷ (1 * 100 + 2 * 82) ∷ []
+  -- 207.30 euros and then 103.65
+  pub quota-balances : balances (lived falling-sheet (blank 4 3) (in-2015 ++ (share-out on 2 ∷ []))) ≡ (155475000 + 55132979) ∷ (51825000 + 48517021) ∷ 0 ∷ []
