@@ -1,4 +1,6 @@
 // The book of one zone: its types, and the laws of a zone's life.
+#![tactic(auto)]
+
 mod adding;
 mod asking;
 mod bill;

@@ -1,4 +1,6 @@
 // Calendar days as decimal numbers yyyymmdd: which are real, the months between two, and the year of a zone's life.
+#![tactic(auto)]
+
 ghost use Rattle.std.specs.Prelude.{◌≡◌, ◌≤◌, T};
 ghost use Rattle.calendar.specs.Days.{is_date, month_length, months_between, index_of};
 

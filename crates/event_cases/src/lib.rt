@@ -1,4 +1,6 @@
 // Whole, long and damaged event files, held to tables of what each must give.
+#![tactic(auto)]
+
 #[cfg(test)]
 mod tests {
     use event_file::block::check_block;

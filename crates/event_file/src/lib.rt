@@ -1,4 +1,6 @@
 // Event files: blocks that carry a check, and entries that tell what happened in a zone.
+#![tactic(auto)]
+
 pub mod block;
 pub mod entry;
 pub mod event;

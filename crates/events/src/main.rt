@@ -1,4 +1,6 @@
 // Lists an event file from standard input, so that people can look into it.
+#![tactic(auto)]
+
 mod text;
 
 ghost use Rattle.std.specs.Prelude.{◌≤◌, length, IfOk};

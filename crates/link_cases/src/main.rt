@@ -1,5 +1,7 @@
 // Every entry of the link tables, at both edges of its row, ab initio and ex post: tools/link_cases.py writes the orders
 // and works out the replies.
+#![tactic(auto)]
+
 use std::io;
 
 fn main(rt: HostRuntime) -> io::Result<()> {

@@ -1,4 +1,6 @@
 // Money in whole micro-euros, and its text: euros, a point and six decimals.
+#![tactic(auto)]
+
 ghost use Rattle.std.specs.Prelude.{◌≡◌, Some};
 ghost use Rattle.money.specs.Text.{money_text, NoLoss};
 

@@ -1,4 +1,5 @@
 // Prices orders for links and extra fibres: one order a line on standard input, one reply a line on standard output.
+#![tactic(auto)]
 
 fn run(rt: &HostRuntime) -> anyhow::Result<()> {
     quoting::run::run(rt)?;

@@ -1,4 +1,6 @@
 // Why the book turns something down: twenty-five refusals, each with a number and a sentence.
+#![tactic(auto)]
+
 ghost use Rattle.std.specs.Prelude.{◌≡◌, Some};
 ghost use Rattle.refusal.specs.Numbers.{number_of};
 ghost use Rattle.refusal.specs.Sentences.{sentence_of};

@@ -1,4 +1,6 @@
 // An event file run through the book of a zone: what was refused, and what the accounts come to.
+#![tactic(auto)]
+
 mod advance;
 mod billed;
 mod installed;

@@ -1,4 +1,5 @@
 // Series by example: which rows make one, and what is in force around each date.
+#![tactic(auto)]
 
 #[cfg(test)]
 mod tests {

@@ -1,4 +1,6 @@
 // What price sheets are made of: the common row, both roundings, and what a sheet is given.
+#![tactic(auto)]
+
 pub mod given;
 pub mod rounding;
 pub mod row;

@@ -1,4 +1,6 @@
 // The three price sheets: flat, indexed and dated.
+#![tactic(auto)]
+
 pub mod dated;
 pub mod dated_answers;
 pub mod flat;

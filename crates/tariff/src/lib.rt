@@ -1,4 +1,6 @@
 // The tariff: five questions, and all that the layers above a price sheet know of it.
+#![tactic(auto)]
+
 pub mod kinds;
 pub mod quotient;
 pub mod tariff;

@@ -1,4 +1,6 @@
 // The sums worked by hand: one theorem over the definitions, and the code run on the same examples.
+#![tactic(auto)]
+
 ghost use Rattle.std.specs.Prelude.{◌≡◌, [], ◌∷◌};
 ghost use Rattle.worked_sums.specs.Sums.{WorkedSums};
 

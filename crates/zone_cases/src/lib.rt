@@ -1,4 +1,6 @@
 // Lives of a zone by example: what calls answer and write, worked out by hand from the rules.
+#![tactic(auto)]
+
 use book::entries::{RegisterEntry, RollEntry};
 use book::launched::LaunchedZone;
 use book::laws::share_outs_follow;
