@@ -14,7 +14,7 @@ import re
 CRATES = "crates"
 GOALS = ("Answers.antt", "Invariants.antt", "Proof.antt", "Choices.antt")
 DASHED = re.compile(r"(?<![\w'\u25cc-])[A-Za-z_\u25cc][\w'\u25cc]*(?:-[\w'\u25cc]+)+(?![\w'\u25cc-])")
-IMPORT = re.compile(r"use (Rattle[\w.+]*)\.\{([^}]*)\}")
+IMPORT = re.compile(r"use ([A-Za-z][\w.+]*)\.\{([^}]*)\}")
 # the names that head a line of a file's list of its definitions
 LISTED = re.compile(r"(?:--   +\S+(?: \S+)*(?=  ))?")
 
@@ -58,7 +58,7 @@ def own_names(texts):
         for m in IMPORT.finditer(code):
             words = m.group(1).split(".")
             made = len(words) > 4 and words[-1] in ("Goals", "Given")
-            if words[1] not in crates or made:
+            if words[0] != "Rattle" or words[1] not in crates or made:
                 other.update(word.strip().split(" as ")[0] for word in m.group(2).split(","))
         if os.path.basename(path) not in GOALS:
             own.update(DASHED.findall(code))

@@ -1,6 +1,6 @@
 -- The sheets of the examples keep the limits of a tariff.
 use Rattle.std.proofs.Common.{◌≡◌, ℕ, ◌+◌, ◌-◌, ◌*◌, ◌/◌, ◌<◌, Bool, true, false, cond, ltb, refl, div-mul-le_self, arith}
-use native.Mathlib.Nat.{lt_div_mul_add}
+use native.Mathlib.Nat.{lt-div-mul-add}
 use Rattle.std.proofs.lemmas.Bool.{ltb-true}
 use Rattle.calendar.specs.Days.{months_between}
 use Rattle.tariff.specs.Meaning.{Lawful, Near, PriceLimits}
@@ -32,7 +32,7 @@ coarse_near n d pos = go (ltb n d) refl
     go true e = let h = ltb-true n d e in record { over = omega arith; under = omega arith }
     go false e =
         let a = div-mul-le_self (n + (d - 1)) d in
-        let b : n + (d - 1) < (n + (d - 1)) / d * d + d = lt_div_mul_add pos in
+        let b : n + (d - 1) < (n + (d - 1)) / d * d + d = lt-div-mul-add pos in
         record { over = omega arith; under = omega arith }
 
 pub coarse_lawful : Lawful coarse

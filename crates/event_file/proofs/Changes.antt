@@ -1,6 +1,6 @@
 -- A block in which one byte is changed fails its check.
 use Rattle.std.proofs.Common.{◌≡◌, ℕ, zero, suc, ◌+◌, ◌*◌, ◌/◌, ◌%◌, ◌<◌, ◌≤◌, Bool, true, false, eqb, ◌≢◌, List, [], ◌∷◌, length, get_or, take, set, fold, sym, refl, ap, ◌∙◌, subst, inl, inr, ⊎_elim, arith}
-use native.Mathlib.Nat.{add_mul_mod_self_left, mod_add_div}
+use native.Mathlib.Nat.{add-mul-mod_self_left, mod-add-div}
 use Rattle.std.proofs.lemmas.List.{get_or-set_other, get_or-set_same, length-set, take-set-le}
 use Rattle.std.proofs.lemmas.Bool.{and_parts, cases_Bool, cases_eq, cases_lt, eqb-true}
 use Rattle.event_file.specs.Blocks.{check_of, passes, written_check}
@@ -10,14 +10,14 @@ use Rattle.event_file.proofs.Exact.{byte_at}
 -- numbers that differ by multiples of 65,521 have one remainder
 same_rest : (s t x y : ℕ) → s + 65521 * x ≡ t + 65521 * y → s % 65521 ≡ t % 65521
 same_rest s t x y e =
-    sym (add_mul_mod_self_left s 65521 x) ∙ ap (λ n. n % 65521) e ∙ add_mul_mod_self_left t 65521 y
+    sym (add-mul-mod_self_left s 65521 x) ∙ ap (λ n. n % 65521) e ∙ add-mul-mod_self_left t 65521 y
 
 -- 256 × 61,170 is 1 more than 239 × 65,521, so a factor 256 can be taken away
 taken_away : (s t b : ℕ) → (s * 256 + b) % 65521 ≡ (t * 256 + b) % 65521 → s % 65521 ≡ t % 65521
 taken_away s t b e =
     let p = (s * 256 + b) / 65521 in
     let q = (t * 256 + b) / 65521 in
-    same_rest s t (239 * s + 61170 * q) (239 * t + 61170 * p) (omega (arith, mod_add_div (s * 256 + b) 65521, mod_add_div (t * 256 + b) 65521))
+    same_rest s t (239 * s + 61170 * q) (239 * t + 61170 * p) (omega (arith, mod-add-div (s * 256 + b) 65521, mod-add-div (t * 256 + b) 65521))
 
 -- equal bytes at the end do not make different remainders equal
 abbrev with_bytes : ℕ → List ℕ → ℕ

@@ -1,6 +1,6 @@
 -- The bytes of an event read back as that event.
 use Rattle.std.proofs.Common.{◌≡◌, ℕ, ◌+◌, ◌*◌, ◌/◌, ◌%◌, ◌^◌, ◌<◌, true, false, not, List, Ok, sym, refl, ap, ◌∙◌, mod-eq_of_lt, arith}
-use native.Mathlib.Nat.{div_div_eq_div_mul}
+use native.Mathlib.Nat.{div-div-eq-div-mul}
 use Rattle.event_file.specs.Format.{Shown, commitment, raise, opening, cabling, launch, Within, entry_bytes, label_stands}
 use Rattle.event_file.specs.Entries.{Told, event, told}
 use Rattle.event_file.specs.Laws.{ReadsBack}
@@ -21,7 +21,7 @@ four_steps n p q r e f g h =
 
 four_same : (n : ℕ) → n < 2 ^ 32 → four_back n ≡ n
 four_same n h =
-    four_steps n (n / 256) (n / 65536) (n / 16777216) refl (sym (div_div_eq_div_mul n 256 256)) (sym (div_div_eq_div_mul n 65536 256)) (omega arith)
+    four_steps n (n / 256) (n / 65536) (n / 16777216) refl (sym (div-div-eq-div-mul n 256 256)) (sym (div-div-eq-div-mul n 65536 256)) (omega arith)
 
 -- three numbers of an event, read back
 module _ (f : ℕ → ℕ → ℕ → List ℕ → Shown) (d n a : ℕ) (l : List ℕ) (hd : d < 2 ^ 32) (hn : n < 2 ^ 32) (ha : a < 2 ^ 32) where

@@ -1,6 +1,6 @@
 -- The steps of reading a decimal number.
 use Rattle.std.proofs.Common.{◌≡◌, ℕ, ◌+◌, ◌-◌, ◌*◌, ◌^◌, ◌<◌, ◌≤◌, Bool, true, false, cond, List, [], ◌∷◌, length, get_or, drop, is_some, Some, None, Option, unwrap_or, sym, ap, ◌∙◌, ⊎_elim, mul-le-mul_right, pow-suc, add-one, arith}
-use native.Mathlib.Nat.{pow_le_pow_right}
+use native.Mathlib.Nat.{pow-le-pow_right}
 use Rattle.std.proofs.lemmas.List.{at_drop_more}
 use Rattle.std.proofs.lemmas.Bool.{cond-true, cond-false, and_from, and_right, le-leb, lt-leb, cases_lt}
 use Rattle.calendar.specs.Days.{within}
@@ -52,4 +52,4 @@ more_digits n d i below few =
 
 pub nine_digits : (n i : ℕ) → n + 1 ≤ 10 ^ i → i ≤ 8 → n < 100000000
 nine_digits n i below few =
-    let most : 10 ^ i ≤ 10 ^ 8 = pow_le_pow_right (omega arith) few in omega arith
+    let most : 10 ^ i ≤ 10 ^ 8 = pow-le-pow_right (omega arith) few in omega arith

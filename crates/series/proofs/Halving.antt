@@ -1,8 +1,8 @@
 -- One turn of the search: what is left to look at halves, and what is known on both sides grows.
 use Rattle.std.proofs.Common.{◌≡◌, ℕ, suc, ◌+◌, ◌-◌, ◌*◌, ◌^◌, ◌<◌, ◌≤◌, true, List, length, get_or, ap, subst, ⊎_elim, arith}
-use native.Mathlib.Nat.{two_pow_succ}
+use native.Mathlib.Nat.{two-pow-succ}
 use lib.Ieee.{size}
-use lib.Ieee.Digits.{size_lt, size_le}
+use lib.Ieee.Digits.{size-lt, size-le}
 use Rattle.std.specs.List.{AllWithin}
 use Rattle.std.proofs.lemmas.List.{get_or_default}
 use Rattle.std.proofs.lemmas.Bool.{cases_eq}
@@ -13,12 +13,12 @@ use Rattle.series.proofs.Order.{rises}
 -- a half has fewer binary digits
 pub fewer_digits : (whole half : ℕ) → 0 < whole → 2 * half ≤ whole → size half < size whole
 fewer_digits whole half some small = ⊎_elim
-    (λ same. let one : whole < 1 = subst (λ k. whole < 2 ^ k) same (size_lt whole) in absurd (omega arith))
+    (λ same. let one : whole < 1 = subst (λ k. whole < 2 ^ k) same (size-lt whole) in absurd (omega arith))
     (λ more.
     let one_less : size whole ≡ suc (size whole - 1) = omega arith in
-    let twice : whole < 2 ^ suc (size whole - 1) = subst (λ k. whole < 2 ^ k) one_less (size_lt whole) in
-    let short : half < 2 ^ (size whole - 1) = omega (arith, two_pow_succ (size whole - 1)) in
-    omega (arith, size_le half (size whole - 1) short))
+    let twice : whole < 2 ^ suc (size whole - 1) = subst (λ k. whole < 2 ^ k) one_less (size-lt whole) in
+    let short : half < 2 ^ (size whole - 1) = omega (arith, two-pow-succ (size whole - 1)) in
+    omega (arith, size-le half (size whole - 1) short))
     (cases_eq (size whole) 0)
 
 module _ {V : Type 0} (rows : List (Dated V)) (up : rising rows ≡ true) (day middle : ℕ) (inside : middle < length rows) (read : Dated V) where
