@@ -4,12 +4,12 @@ use Rattle.event_file.specs.Blocks.{check_of}
 use Rattle.event_file.proofs.Remainders.{check_more, check_small}
 use Rattle.event_file.proofs.block.check_of.Goals as goal
 
-pub with-byte-rest-requires : goal.with-byte-rest-requires
-with-byte-rest-requires c = check_small (take c.loop-byte.byte-index c.args.bytes.now) c.loop-byte.rest c.loop-byte.invariant
+pub with_byte-rest-requires : goal.with_byte-rest-requires
+with_byte-rest-requires c = check_small (take c.loop-byte.byte-index c.args.bytes.now) c.loop-byte.rest c.loop-byte.invariant
 
 pub loop-byte-preserved : goal.loop-byte-preserved
 loop-byte-preserved c =
-    c.with-byte-rest.ensures.value
+    c.with_byte-rest.ensures.value
     ∙ check_more c.args.bytes.now c.loop-byte.byte-index c.loop-byte.rest (omega arith) c.loop-byte.invariant
 
 pub returns : goal.returns

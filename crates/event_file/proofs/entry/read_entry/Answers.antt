@@ -4,11 +4,11 @@ use Rattle.event_file.proofs.Exact.{only_its_bytes}
 use Rattle.event_file.proofs.ReadingBack.{reads_back}
 use Rattle.event_file.proofs.entry.read_entry.Goals as goal
 
-pub returns-in-default : goal.returns-in-default
-returns-in-default c = record { answer = search rules; back = reads_back; exact = only_its_bytes }
+pub returns-in_default : goal.returns-in_default
+returns-in_default c = record { answer = search rules; back = reads_back; exact = only_its_bytes }
 
-pub returns-in-err-fields : goal.returns-in-err-fields
-returns-in-err-fields c = record { answer = search rules; back = reads_back; exact = only_its_bytes }
+pub returns-in_err-fields-in-E : goal.returns-in_err-fields-in-E
+returns-in_err-fields-in-E c = record { answer = search rules; back = reads_back; exact = only_its_bytes }
 
 pub returns-in-0 : goal.returns-in-0
 returns-in-0 c = record { answer = search rules; back = reads_back; exact = only_its_bytes }
@@ -16,8 +16,8 @@ returns-in-0 c = record { answer = search rules; back = reads_back; exact = only
 pub returns-in-0-2 : goal.returns-in-0-2
 returns-in-0-2 c = record { answer = search rules; back = reads_back; exact = only_its_bytes }
 
-pub returns-in-ok-fields : goal.returns-in-ok-fields
-returns-in-ok-fields c = record { answer = search rules; back = reads_back; exact = only_its_bytes }
+pub returns-in_ok-fields-in-E : goal.returns-in_ok-fields-in-E
+returns-in_ok-fields-in-E c = record { answer = search rules; back = reads_back; exact = only_its_bytes }
 
-pub returns-in-default-from : goal.returns-in-default-from
-returns-in-default-from c = record { answer = grind (arith, nat_tests); back = reads_back; exact = only_its_bytes }
+pub returns-in_default-from : goal.returns-in_default-from
+returns-in_default-from c = record { answer = grind (arith, nat_tests); back = reads_back; exact = only_its_bytes }

@@ -4,4 +4,4 @@ use Rattle.event_file.proofs.label.printed.Goals as goal
 
 pub unreachable-requires : goal.unreachable-requires
 unreachable-requires c =
-    c.in-Err.ensures.cases.0 (utf8_printed c.args.bytes.now (sym c.if-not-all-print.ensures.value))
+    c.in-Err.ensures.cases.0 (utf8_printed c.args.bytes.now (sym c.if-not-all_print.ensures.value))

@@ -4,14 +4,14 @@ use Rattle.event_file.specs.Reading.{blank_before}
 use Rattle.event_file.proofs.Blanks.{blank_stays, no_blank_more}
 use Rattle.event_file.proofs.reader.blank_before.Goals as goal
 
-pub returns-then-is-blank : goal.returns-then-is-blank
-returns-then-is-blank c =
-    let here = sym (ap is_blank c.entry-at.ensures.value) ∙ sym c.if-is-blank.ensures.value in
+pub returns-then-is_blank : goal.returns-then-is_blank
+returns-then-is_blank c =
+    let here = sym (ap is_blank c.entry_at.ensures.value) ∙ sym c.if-is_blank.ensures.value in
     record { value = sym (blank_stays c.args.block.now c.loop-earlier.earlier c.args.number (omega arith) here) }
 
 pub loop-earlier-preserved : goal.loop-earlier-preserved
 loop-earlier-preserved c =
-    let here = sym (ap is_blank c.entry-at.ensures.value) ∙ sym c.if-is-blank.ensures.value in
+    let here = sym (ap is_blank c.entry_at.ensures.value) ∙ sym c.if-is_blank.ensures.value in
     no_blank_more c.args.block.now c.loop-earlier.earlier here c.loop-earlier.invariant
 
 pub returns : goal.returns

@@ -5,16 +5,16 @@ use Rattle.refusal.proofs.First.{still_refused, carried}
 use Rattle.links.specs.Quotations.{checks, place_of, fibre_at}
 use Rattle.links.proofs.price.fibre_price.Goals as goal
 
-pub returns-in-err-place : goal.returns-in-err-place
-returns-in-err-place g c =
+pub returns-in_err-place : goal.returns-in_err-place
+returns-in_err-place g c =
     let m = g.T.Tariff.meaning c.args.sheet.now in
     let o = c.args.order.now in
-    let p = err_from_is_err_and c.from-residual.result c.from-residual.ensures.1 in
-    record { answer = rw (p.1, p.2) (still_refused (first (checks m o)) (place_of m o) (fibre_at m (place_of m o)) _ (sym c.place-of.ensures.answer ∙ c.in-err-place.was)) }
+    let p = err_from_is_err_and c.from_residual.result c.from_residual.ensures.1 in
+    record { answer = rw (p.1, p.2) (still_refused (first (checks m o)) (place_of m o) (fibre_at m (place_of m o)) _ (sym c.place_of.ensures.answer ∙ c.in_err-place.was)) }
 
 pub returns : goal.returns
 returns g c =
     let m = g.T.Tariff.meaning c.args.sheet.now in
     let o = c.args.order.now in
-    let is = carried (first (checks m o)) (place_of m o) c.in-ok-place.place (fibre_at m) (sym c.place-of.ensures.answer ∙ c.in-ok-place.was) in
+    let is = carried (first (checks m o)) (place_of m o) c.in_ok-place.place (fibre_at m) (sym c.place_of.ensures.answer ∙ c.in_ok-place.was) in
     record { answer = ap Ok c.fibre_at.ensures.value ∙ is }

@@ -4,47 +4,47 @@ use Rattle.links.specs.Quotations.{PlaceLimits}
 use Rattle.links.proofs.Placing.{by_dates, by_basis, by_row, by_column, found_place, found_limits}
 use Rattle.links.proofs.price.place_of.Goals as goal
 
-pub returns-in-err-check-dates : goal.returns-in-err-check-dates
-returns-in-err-check-dates g c =
-    let out = c.from-residual in
+pub returns-in_err-check_dates : goal.returns-in_err-check_dates
+returns-in_err-check_dates g c =
+    let out = c.from_residual in
     let p = err_from_is_err_and out.result out.ensures.1 in
-    let stops = sym c.check-dates.ensures.answer ∙ c.in-err-check-dates.was in
+    let stops = sym c.check_dates.ensures.answer ∙ c.in_err-check_dates.was in
     record {
       answer = rw (p.1, p.2) (by_dates (g.T.Tariff.meaning c.args.sheet.now) c.args.order.now _ stops);
       limits = IfOk-from_err out.result PlaceLimits out.ensures.0;
     }
 
-pub returns-in-err-basis : goal.returns-in-err-basis
-returns-in-err-basis g c =
-    let out = c.from-residual-in-err-basis in
+pub returns-in_err-basis : goal.returns-in_err-basis
+returns-in_err-basis g c =
+    let out = c.from_residual-in_err-basis in
     let p = err_from_is_err_and out.result out.ensures.1 in
-    let real = sym c.check-dates.ensures.answer ∙ c.in-ok-check-dates.was in
-    let stops = sym c.basis_of.ensures.answer ∙ c.in-err-basis.was in
+    let real = sym c.check_dates.ensures.answer ∙ c.in_ok-check_dates.was in
+    let stops = sym c.basis_of.ensures.answer ∙ c.in_err-basis.was in
     record {
       answer = rw (p.1, p.2) (by_basis (g.T.Tariff.meaning c.args.sheet.now) c.args.order.now _ real _ stops);
       limits = IfOk-from_err out.result PlaceLimits out.ensures.0;
     }
 
-pub returns-in-err-row : goal.returns-in-err-row
-returns-in-err-row g c =
-    let out = c.from-residual-in-err-row in
+pub returns-in_err-row : goal.returns-in_err-row
+returns-in_err-row g c =
+    let out = c.from_residual-in_err-row in
     let p = err_from_is_err_and out.result out.ensures.1 in
-    let real = sym c.check-dates.ensures.answer ∙ c.in-ok-check-dates.was in
-    let based = sym c.basis_of.ensures.answer ∙ c.in-ok-basis.was in
-    let stops = sym c.row-of.ensures.answer ∙ c.in-err-row.was in
+    let real = sym c.check_dates.ensures.answer ∙ c.in_ok-check_dates.was in
+    let based = sym c.basis_of.ensures.answer ∙ c.in_ok-basis.was in
+    let stops = sym c.row_of.ensures.answer ∙ c.in_err-row.was in
     record {
       answer = rw (p.1, p.2) (by_row (g.T.Tariff.meaning c.args.sheet.now) c.args.order.now _ real _ based _ stops);
       limits = IfOk-from_err out.result PlaceLimits out.ensures.0;
     }
 
-pub returns-in-err-column : goal.returns-in-err-column
-returns-in-err-column g c =
-    let out = c.from-residual-in-err-column in
+pub returns-in_err-column : goal.returns-in_err-column
+returns-in_err-column g c =
+    let out = c.from_residual-in_err-column in
     let p = err_from_is_err_and out.result out.ensures.1 in
-    let real = sym c.check-dates.ensures.answer ∙ c.in-ok-check-dates.was in
-    let based = sym c.basis_of.ensures.answer ∙ c.in-ok-basis.was in
-    let in_row = sym c.row-of.ensures.answer ∙ c.in-ok-row.was in
-    let stops = sym c.column-of.ensures.answer ∙ c.in-err-column.was in
+    let real = sym c.check_dates.ensures.answer ∙ c.in_ok-check_dates.was in
+    let based = sym c.basis_of.ensures.answer ∙ c.in_ok-basis.was in
+    let in_row = sym c.row_of.ensures.answer ∙ c.in_ok-row.was in
+    let stops = sym c.column_of.ensures.answer ∙ c.in_err-column.was in
     record {
       answer = rw (p.1, p.2) (by_column (g.T.Tariff.meaning c.args.sheet.now) c.args.order.now _ real _ based _ in_row _ stops);
       limits = IfOk-from_err out.result PlaceLimits out.ensures.0;
@@ -54,10 +54,10 @@ pub returns : goal.returns
 returns g c =
     let m = g.T.Tariff.meaning c.args.sheet.now in
     let o = c.args.order.now in
-    let real = sym c.check-dates.ensures.answer ∙ c.in-ok-check-dates.was in
-    let based = sym c.basis_of.ensures.answer ∙ c.in-ok-basis.was in
-    let in_row = sym c.row-of.ensures.answer ∙ c.in-ok-row.was in
-    let in_column = sym c.column-of.ensures.answer ∙ c.in-ok-column.was in
+    let real = sym c.check_dates.ensures.answer ∙ c.in_ok-check_dates.was in
+    let based = sym c.basis_of.ensures.answer ∙ c.in_ok-basis.was in
+    let in_row = sym c.row_of.ensures.answer ∙ c.in_ok-row.was in
+    let in_column = sym c.column_of.ensures.answer ∙ c.in_ok-column.was in
     record {
       answer = found_place m o _ real _ based _ in_row _ in_column;
       limits = found_limits m o _ real _ based _ in_row _ in_column (g.T.Tariff.lawful c.args.sheet.now);

@@ -4,8 +4,8 @@ use Rattle.std.proofs.lemmas.Bool.{lt-leb, le-leb}
 use Rattle.tariff.specs.Most.{all_at_most}
 use Rattle.sheet_parts.proofs.given.weights_fit.Goals as goal
 
-pub returns-then-weight-gt-MOST-WEIGHT : goal.returns-then-weight-gt-MOST-WEIGHT
-returns-then-weight-gt-MOST-WEIGHT c =
+pub returns-then-weight-gt-MOST_WEIGHT : goal.returns-then-weight-gt-MOST_WEIGHT
+returns-then-weight-gt-MOST_WEIGHT c =
     let ws = c.args.weights.now in
     let i = c.loop-weight.weight-index in
     let here = at_drop_more (all_at_most 200) ws i 0 (omega arith) in

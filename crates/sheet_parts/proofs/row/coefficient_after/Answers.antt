@@ -8,16 +8,16 @@ pub returns-then-months-ge240 : goal.returns-then-months-ge240
 unfolding coefficient_after
 returns-then-months-ge240 c = record { value = search rules; between = λ less. absurd (omega arith) }
 
-pub overflow-mul-numerator : goal.overflow-mul-numerator
-overflow-mul-numerator c =
+pub overflow_mul-numerator : goal.overflow_mul-numerator
+overflow_mul-numerator c =
     let most = part_most (12 - c.args.months % 12) (c.args.months / 12) (omega arith) in omega arith
 
-pub overflow-mul-numerator-2 : goal.overflow-mul-numerator-2
-overflow-mul-numerator-2 c =
+pub overflow_mul-numerator-2 : goal.overflow_mul-numerator-2
+overflow_mul-numerator-2 c =
     let most = part_most (c.args.months % 12) (c.args.months / 12 + 1) (omega arith) in omega arith
 
-pub overflow-add-numerator-2 : goal.overflow-add-numerator-2
-overflow-add-numerator-2 c =
+pub overflow_add-numerator-2 : goal.overflow_add-numerator-2
+overflow_add-numerator-2 c =
     let front = part_most (12 - c.args.months % 12) (c.args.months / 12) (omega arith) in
     let back = part_most (c.args.months % 12) (c.args.months / 12 + 1) (omega arith) in omega arith
 

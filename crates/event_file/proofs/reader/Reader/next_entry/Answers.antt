@@ -21,10 +21,10 @@ pub returns-in-Err : goal.returns-in-Err
 returns-in-Err c =
     let bs = c.args.self.now.bytes.now in
     let p = c.args.self.now.position in
-    let b = c.block-at-block.result.now in
+    let b = c.block_at-block.result.now in
     record {
-      answer = stopped_at bs p b c.in-Err.refusal c.if-self-end.false c.block-at-block.ensures.value c.in-Err.ensures.answer;
-      position = stopped_after bs p b c.in-Err.refusal c.if-self-end.false c.block-at-block.ensures.value c.in-Err.ensures.answer;
+      answer = stopped_at bs p b c.in-Err.refusal c.if-self-end.false c.block_at-block.ensures.value c.in-Err.ensures.answer;
+      position = stopped_after bs p b c.in-Err.refusal c.if-self-end.false c.block_at-block.ensures.value c.in-Err.ensures.answer;
       forward = (c.if-self-end.false, omega arith);
       kept = refl;
       label = tt;
@@ -35,12 +35,12 @@ pub returns : goal.returns
 returns c =
     let bs = c.args.self.now.bytes.now in
     let p = c.args.self.now.position in
-    let b = c.block-at-block.result.now in
+    let b = c.block_at-block.result.now in
     record {
-      answer = went_at bs p b _ c.in-default.field-0 c.if-self-end.false c.block-at-block.ensures.value c.in-default.ensures.answer c.step-in.ensures.answer;
-      position = went_after bs p b c.in-default.field-0 c.if-self-end.false c.block-at-block.ensures.value c.in-default.ensures.answer;
-      forward = forward_by bs p c.step-in.result c.if-self-end.false;
+      answer = went_at bs p b _ c.in_default.field-0 c.if-self-end.false c.block_at-block.ensures.value c.in_default.ensures.answer c.step_in.ensures.answer;
+      position = went_after bs p b c.in_default.field-0 c.if-self-end.false c.block_at-block.ensures.value c.in_default.ensures.answer;
+      forward = forward_by bs p c.step_in.result c.if-self-end.false;
       kept = refl;
-      label = labelled bs p (went_at bs p b _ c.in-default.field-0 c.if-self-end.false c.block-at-block.ensures.value c.in-default.ensures.answer c.step-in.ensures.answer);
+      label = labelled bs p (went_at bs p b _ c.in_default.field-0 c.if-self-end.false c.block_at-block.ensures.value c.in_default.ensures.answer c.step_in.ensures.answer);
       entries = same_entries;
     }

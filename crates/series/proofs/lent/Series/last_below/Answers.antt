@@ -6,12 +6,12 @@ use Rattle.series.proofs.lent.Series.last_below.Goals as goal
 pub returns-then-count-eq0 : goal.returns-then-count-eq0
 returns-then-count-eq0 g c = record {
   value = sym (none_passes (λ date. ltb date c.args.number) c.args.self.now.rows.now
-      (λ k d h. le-ltb _ _ (c.rows-below-count.ensures.later k d (omega arith) h)));
+      (λ k d h. le-ltb _ _ (c.rows_below-count.ensures.later k d (omega arith) h)));
 }
 
 pub returns-else-count-eq0 : goal.returns-else-count-eq0
 returns-else-count-eq0 g c = record {
-  value = sym (last_at (λ date. ltb date c.args.number) c.args.self.now.rows.now (c.rows-below-count.result - 1) c.index-self-count.result (omega arith)
-      (lt-ltb _ _ (c.rows-below-count.ensures.earlier (c.rows-below-count.result - 1) c.index-self-count.result (omega arith) (omega arith)))
-      (λ k e h l. le-ltb _ _ (c.rows-below-count.ensures.later k e (omega arith) l)));
+  value = sym (last_at (λ date. ltb date c.args.number) c.args.self.now.rows.now (c.rows_below-count.result - 1) c.index-self-count.result (omega arith)
+      (lt-ltb _ _ (c.rows_below-count.ensures.earlier (c.rows_below-count.result - 1) c.index-self-count.result (omega arith) (omega arith)))
+      (λ k e h l. le-ltb _ _ (c.rows_below-count.ensures.later k e (omega arith) l)));
 }
