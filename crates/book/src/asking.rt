@@ -10,7 +10,7 @@ use tariff::tariff::Tariff;
 
 // A price for every object.
 pub(crate) fn check_prices<T: Tariff>(sheet: &T, objects: &[RegisterEntry]) -> Result<(), Refusal>
-    ensures answer { result ≡ passing (price_check (meaning sheet.now) objects.now ∷ []) }
+    ensures answer { result ≡ passing (price_check (T.meaning sheet.now) objects.now ∷ []) }
 {
     if any_unpriced(sheet, objects) {
         return Err(Refusal::NoPrice);
@@ -20,7 +20,7 @@ pub(crate) fn check_prices<T: Tariff>(sheet: &T, objects: &[RegisterEntry]) -> R
 
 // A price for one object.
 pub(crate) fn check_price<T: Tariff>(sheet: &T, object: &RegisterEntry) -> Result<(), Refusal>
-    ensures answer { result ≡ passing (price_check (meaning sheet.now) (object.now ∷ []) ∷ []) }
+    ensures answer { result ≡ passing (price_check (T.meaning sheet.now) (object.now ∷ []) ∷ []) }
 {
     if is_unpriced(sheet, object) {
         return Err(Refusal::NoPrice);
@@ -34,7 +34,7 @@ pub(crate) fn check_coefficients<T: Tariff>(
     date: u32,
     objects: &[RegisterEntry],
 ) -> Result<(), Refusal>
-    ensures answer { result ≡ passing (coefficient_check (meaning sheet.now) date objects.now ∷ []) }
+    ensures answer { result ≡ passing (coefficient_check (T.meaning sheet.now) date objects.now ∷ []) }
 {
     if any_unrated(sheet, date, objects) {
         return Err(Refusal::NoCoefficient);
@@ -43,7 +43,7 @@ pub(crate) fn check_coefficients<T: Tariff>(
 }
 
 fn any_unpriced<T: Tariff>(sheet: &T, objects: &[RegisterEntry]) -> bool
-    ensures value { result ≡ any (unpriced (meaning sheet.now)) objects.now }
+    ensures value { result ≡ any (unpriced (T.meaning sheet.now)) objects.now }
 {
     for object in objects {
         if is_unpriced(sheet, object) {
@@ -54,7 +54,7 @@ fn any_unpriced<T: Tariff>(sheet: &T, objects: &[RegisterEntry]) -> bool
 }
 
 fn any_unrated<T: Tariff>(sheet: &T, date: u32, objects: &[RegisterEntry]) -> bool
-    ensures value { result ≡ any (unrated (meaning sheet.now) date) objects.now }
+    ensures value { result ≡ any (unrated (T.meaning sheet.now) date) objects.now }
 {
     for object in objects {
         if is_unrated(sheet, date, object) {
@@ -65,14 +65,14 @@ fn any_unrated<T: Tariff>(sheet: &T, date: u32, objects: &[RegisterEntry]) -> bo
 }
 
 fn is_unpriced<T: Tariff>(sheet: &T, object: &RegisterEntry) -> bool
-    ensures value { result ≡ unpriced (meaning sheet.now) object.now }
+    ensures value { result ≡ unpriced (T.meaning sheet.now) object.now }
 {
     sheet.price(object.kind, object.installed).is_none()
 }
 
 // Whether the rule multiplies by a coefficient that the sheet does not have.
 fn is_unrated<T: Tariff>(sheet: &T, date: u32, object: &RegisterEntry) -> bool
-    ensures value { result ≡ unrated (meaning sheet.now) date object.now }
+    ensures value { result ≡ unrated (T.meaning sheet.now) date object.now }
 {
     object.installed < date && sheet.coefficient(object.installed, date).is_none()
 }

@@ -38,7 +38,7 @@ pub(crate) fn line_of(nature: Nature, operator: u32, object: u32, unit: u64, qua
 // The price per tranche and dwelling of an object.
 fn price_at<T: Tariff>(sheet: &T, object: &RegisterEntry) -> u64
     requires sound { one_of (object_faults object.now) ≡ false }
-    ensures value { result ≡ price_at (meaning sheet.now) object.now.kind object.now.installed }
+    ensures value { result ≡ price_at (T.meaning sheet.now) object.now.kind object.now.installed }
     ensures most { result ≤ 500000000 }
 {
     u64::from(sheet.price(object.kind, object.installed).unwrap_or(0))
@@ -46,7 +46,7 @@ fn price_at<T: Tariff>(sheet: &T, object: &RegisterEntry) -> u64
 
 // The coefficient of two days.
 fn coefficient_at<T: Tariff>(sheet: &T, installed: u32, date: u32) -> Coefficient
-    ensures value { result ≡ coefficient_at (meaning sheet.now) installed date }
+    ensures value { result ≡ coefficient_at (T.meaning sheet.now) installed date }
 {
     let none = Coefficient {
         numerator: 0,
@@ -65,7 +65,7 @@ pub(crate) fn unit_price<T: Tariff>(
     requires few { tranches ≤ most_tranches }
     requires real { Holds (is_date date) }
     requires sound { one_of (object_faults object.now) ≡ false }
-    ensures value { result ≡ unit_price (meaning sheet.now) object.now.kind object.now.installed date tranches }
+    ensures value { result ≡ unit_price (T.meaning sheet.now) object.now.kind object.now.installed date tranches }
     ensures most { result ≤ 40000000000 }
 {
     let price = price_at(sheet, object) * u64::from(tranches);
@@ -88,7 +88,7 @@ pub(crate) fn unit_contribution<T: Tariff>(
 ) -> u64
     requires few { tranches ≤ most_tranches }
     requires sound { one_of (object_faults object.now) ≡ false }
-    ensures value { result ≡ unit_contribution (meaning sheet.now) object.now.kind object.now.installed date tranches }
+    ensures value { result ≡ unit_contribution (T.meaning sheet.now) object.now.kind object.now.installed date tranches }
     ensures most { result ≤ 10000000000 }
 {
     if object.installed >= date {
@@ -111,9 +111,9 @@ pub(crate) fn bill<T: Tariff>(
     requires few { increase.tranches ≤ most_tranches }
     requires real { Holds (is_date increase.date) }
     requires sound { any (λ o. one_of (object_faults o)) register.now ≡ false }
-    requires room { length (billing_of (meaning sheet.now) (addition_in increase) register.now) ≤ length strip.old }
-    ensures number { result ≡ length (billing_of (meaning sheet.now) (addition_in increase) register.now) }
-    ensures strip { strip.new ≡ written (billing_of (meaning sheet.now) (addition_in increase) register.now) strip.old }
+    requires room { length (billing_of (T.meaning sheet.now) (addition_in increase) register.now) ≤ length strip.old }
+    ensures number { result ≡ length (billing_of (T.meaning sheet.now) (addition_in increase) register.now) }
+    ensures strip { strip.new ≡ written (billing_of (T.meaning sheet.now) (addition_in increase) register.now) strip.old }
 {
     let mut next = 0;
     for object in register {
@@ -150,9 +150,9 @@ pub(crate) fn charge<T: Tariff>(
 ) -> usize
     requires object { one_of (object_faults object.now) ≡ false }
     requires sound { any (λ e. one_of (entry_faults e)) roll.now ≡ false }
-    requires room { length (charged (meaning sheet.now) object.now (members_of roll.now)) ≤ length strip.old }
-    ensures number { result ≡ length (charged (meaning sheet.now) object.now (members_of roll.now)) }
-    ensures strip { strip.new ≡ written (charged (meaning sheet.now) object.now (members_of roll.now)) strip.old }
+    requires room { length (charged (T.meaning sheet.now) object.now (members_of roll.now)) ≤ length strip.old }
+    ensures number { result ≡ length (charged (T.meaning sheet.now) object.now (members_of roll.now)) }
+    ensures strip { strip.new ≡ written (charged (T.meaning sheet.now) object.now (members_of roll.now)) strip.old }
 {
     let price = price_at(sheet, object);
     let mut next = 0;
@@ -181,9 +181,9 @@ pub(crate) fn charge_counted<T: Tariff>(
     requires long { counted ≤ length roll.now }
     requires object { one_of (object_faults object.now) ≡ false }
     requires sound { any (λ e. one_of (entry_faults e)) (take counted roll.now) ≡ false }
-    requires room { length (charged (meaning sheet.now) object.now (members_of (take counted roll.now))) ≤ length strip.old }
-    ensures number { result ≡ length (charged (meaning sheet.now) object.now (members_of (take counted roll.now))) }
-    ensures strip { strip.new ≡ written (charged (meaning sheet.now) object.now (members_of (take counted roll.now))) strip.old }
+    requires room { length (charged (T.meaning sheet.now) object.now (members_of (take counted roll.now))) ≤ length strip.old }
+    ensures number { result ≡ length (charged (T.meaning sheet.now) object.now (members_of (take counted roll.now))) }
+    ensures strip { strip.new ≡ written (charged (T.meaning sheet.now) object.now (members_of (take counted roll.now))) strip.old }
 {
     charge(sheet, object, &roll[0..counted], strip)
 }
@@ -218,9 +218,9 @@ pub(crate) fn bill_counted<T: Tariff>(
     requires few { increase.tranches ≤ most_tranches }
     requires real { Holds (is_date increase.date) }
     requires sound { any (λ o. one_of (object_faults o)) (take counted register.now) ≡ false }
-    requires room { length (billing_of (meaning sheet.now) (addition_in increase) (take counted register.now)) ≤ length strip.old }
-    ensures number { result ≡ length (billing_of (meaning sheet.now) (addition_in increase) (take counted register.now)) }
-    ensures strip { strip.new ≡ written (billing_of (meaning sheet.now) (addition_in increase) (take counted register.now)) strip.old }
+    requires room { length (billing_of (T.meaning sheet.now) (addition_in increase) (take counted register.now)) ≤ length strip.old }
+    ensures number { result ≡ length (billing_of (T.meaning sheet.now) (addition_in increase) (take counted register.now)) }
+    ensures strip { strip.new ≡ written (billing_of (T.meaning sheet.now) (addition_in increase) (take counted register.now)) strip.old }
 {
     bill(sheet, increase, &register[0..counted], strip)
 }

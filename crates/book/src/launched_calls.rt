@@ -32,10 +32,10 @@ impl LaunchedZone {
         operator: u32,
         rate: u32,
     ) -> Result<Written<OpenLevy>, Refused<LaunchedZone>>
-        ensures answer { written_answer levied_on (tables roll.now register.now) strip.new result ≡ billing (meaning sheet.now) self.figures self.launch_date (tables roll.now register.now) (length strip.old) (commitment_event date operator rate) }
-        ensures strip { strip.new ≡ strip_after strip.old (billing (meaning sheet.now) self.figures self.launch_date (tables roll.now register.now) (length strip.old) (commitment_event date operator rate)) }
+        ensures answer { written_answer levied_on (tables roll.now register.now) strip.new result ≡ billing (T.meaning sheet.now) self.figures self.launch_date (tables roll.now register.now) (length strip.old) (commitment_event date operator rate) }
+        ensures strip { strip.new ≡ strip_after strip.old (billing (T.meaning sheet.now) self.figures self.launch_date (tables roll.now register.now) (length strip.old) (commitment_event date operator rate)) }
         ensures kept { IfErr result (λ back. back.kept ≡ self) }
-        ensures life { LivesOn (meaning sheet.now) (launched_on self (tables roll.now register.now)) (call_commitment date operator rate) (written_answer levied_on (tables roll.now register.now) strip.new result) }
+        ensures life { LivesOn (T.meaning sheet.now) (launched_on self (tables roll.now register.now)) (call_commitment date operator rate) (written_answer levied_on (tables roll.now register.now) strip.new result) }
     {
         let event = Event {
             change: Change::Commitment,
@@ -57,11 +57,11 @@ impl LaunchedZone {
         operator: u32,
         rate: u32,
     ) -> Result<Written<OpenLevy>, Refused<LaunchedZone>>
-        ensures answer { written_answer levied_on (tables roll.now register.now) strip.new result ≡ billing (meaning sheet.now) self.figures self.launch_date (tables roll.now register.now) (length strip.old) (raise_event date operator rate) }
-        ensures strip { strip.new ≡ strip_after strip.old (billing (meaning sheet.now) self.figures self.launch_date (tables roll.now register.now) (length strip.old) (raise_event date operator rate)) }
+        ensures answer { written_answer levied_on (tables roll.now register.now) strip.new result ≡ billing (T.meaning sheet.now) self.figures self.launch_date (tables roll.now register.now) (length strip.old) (raise_event date operator rate) }
+        ensures strip { strip.new ≡ strip_after strip.old (billing (T.meaning sheet.now) self.figures self.launch_date (tables roll.now register.now) (length strip.old) (raise_event date operator rate)) }
         ensures kept { IfErr result (λ back. back.kept ≡ self) }
-        ensures life { LivesOn (meaning sheet.now) (launched_on self (tables roll.now register.now)) (call_raise date operator rate) (written_answer levied_on (tables roll.now register.now) strip.new result) }
-        ensures cut { CutsFairly (meaning sheet.now) (launched_on self (tables roll.now register.now)) date operator rate (written_answer levied_on (tables roll.now register.now) strip.new result) }
+        ensures life { LivesOn (T.meaning sheet.now) (launched_on self (tables roll.now register.now)) (call_raise date operator rate) (written_answer levied_on (tables roll.now register.now) strip.new result) }
+        ensures cut { CutsFairly (T.meaning sheet.now) (launched_on self (tables roll.now register.now)) date operator rate (written_answer levied_on (tables roll.now register.now) strip.new result) }
     {
         let event = Event {
             change: Change::Raise,
@@ -83,10 +83,10 @@ impl LaunchedZone {
         object: u32,
         dwellings: u32,
     ) -> Result<Written<LaunchedZone>, Refused<LaunchedZone>>
-        ensures answer { written_answer launched_on (tables roll.now register.new) strip.new result ≡ installation (meaning sheet.now) self.figures self.launch_date (tables roll.now register.old) (length strip.old) (opened date object dwellings) }
-        ensures strip { strip.new ≡ strip_after strip.old (installation (meaning sheet.now) self.figures self.launch_date (tables roll.now register.old) (length strip.old) (opened date object dwellings)) }
+        ensures answer { written_answer launched_on (tables roll.now register.new) strip.new result ≡ installation (T.meaning sheet.now) self.figures self.launch_date (tables roll.now register.old) (length strip.old) (opened date object dwellings) }
+        ensures strip { strip.new ≡ strip_after strip.old (installation (T.meaning sheet.now) self.figures self.launch_date (tables roll.now register.old) (length strip.old) (opened date object dwellings)) }
         ensures kept { IfErr result (λ back. (back.kept ≡ self) × (register.new ≡ register.old)) }
-        ensures life { LivesOn (meaning sheet.now) (launched_on self (tables roll.now register.old)) (call_opening date object dwellings) (written_answer launched_on (tables roll.now register.new) strip.new result) }
+        ensures life { LivesOn (T.meaning sheet.now) (launched_on self (tables roll.now register.old)) (call_opening date object dwellings) (written_answer launched_on (tables roll.now register.new) strip.new result) }
     {
         let entry = RegisterEntry {
             object,
@@ -109,10 +109,10 @@ impl LaunchedZone {
         third: bool,
         dwellings: u32,
     ) -> Result<Written<LaunchedZone>, Refused<LaunchedZone>>
-        ensures answer { written_answer launched_on (tables roll.now register.new) strip.new result ≡ installation (meaning sheet.now) self.figures self.launch_date (tables roll.now register.old) (length strip.old) (cabled date object third dwellings) }
-        ensures strip { strip.new ≡ strip_after strip.old (installation (meaning sheet.now) self.figures self.launch_date (tables roll.now register.old) (length strip.old) (cabled date object third dwellings)) }
+        ensures answer { written_answer launched_on (tables roll.now register.new) strip.new result ≡ installation (T.meaning sheet.now) self.figures self.launch_date (tables roll.now register.old) (length strip.old) (cabled date object third dwellings) }
+        ensures strip { strip.new ≡ strip_after strip.old (installation (T.meaning sheet.now) self.figures self.launch_date (tables roll.now register.old) (length strip.old) (cabled date object third dwellings)) }
         ensures kept { IfErr result (λ back. (back.kept ≡ self) × (register.new ≡ register.old)) }
-        ensures life { LivesOn (meaning sheet.now) (launched_on self (tables roll.now register.old)) (call_cabling date object third dwellings) (written_answer launched_on (tables roll.now register.new) strip.new result) }
+        ensures life { LivesOn (T.meaning sheet.now) (launched_on self (tables roll.now register.old)) (call_cabling date object third dwellings) (written_answer launched_on (tables roll.now register.new) strip.new result) }
     {
         let entry = site_entry(date, object, third, dwellings);
         self.installed(sheet, roll, register, strip, entry)
@@ -127,8 +127,8 @@ impl LaunchedZone {
         strip: &mut [Line],
         object: RegisterEntry,
     ) -> Result<Written<LaunchedZone>, Refused<LaunchedZone>>
-        ensures answer { written_answer launched_on (tables roll.now register.new) strip.new result ≡ installation (meaning sheet.now) self.figures self.launch_date (tables roll.now register.old) (length strip.old) object }
-        ensures strip { strip.new ≡ strip_after strip.old (installation (meaning sheet.now) self.figures self.launch_date (tables roll.now register.old) (length strip.old) object) }
+        ensures answer { written_answer launched_on (tables roll.now register.new) strip.new result ≡ installation (T.meaning sheet.now) self.figures self.launch_date (tables roll.now register.old) (length strip.old) object }
+        ensures strip { strip.new ≡ strip_after strip.old (installation (T.meaning sheet.now) self.figures self.launch_date (tables roll.now register.old) (length strip.old) object) }
         ensures kept { IfErr result (λ back. (back.kept ≡ self) × (register.new ≡ register.old)) }
     {
         match check_installation(
@@ -176,8 +176,8 @@ impl LaunchedZone {
         strip: &mut [Line],
         event: Event,
     ) -> Result<Written<OpenLevy>, Refused<LaunchedZone>>
-        ensures answer { written_answer levied_on (tables roll.now register.now) strip.new result ≡ billing (meaning sheet.now) self.figures self.launch_date (tables roll.now register.now) (length strip.old) event }
-        ensures strip { strip.new ≡ strip_after strip.old (billing (meaning sheet.now) self.figures self.launch_date (tables roll.now register.now) (length strip.old) event) }
+        ensures answer { written_answer levied_on (tables roll.now register.now) strip.new result ≡ billing (T.meaning sheet.now) self.figures self.launch_date (tables roll.now register.now) (length strip.old) event }
+        ensures strip { strip.new ≡ strip_after strip.old (billing (T.meaning sheet.now) self.figures self.launch_date (tables roll.now register.now) (length strip.old) event) }
         ensures kept { IfErr result (λ back. back.kept ≡ self) }
     {
         match check_billing(

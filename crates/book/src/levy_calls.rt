@@ -28,10 +28,10 @@ impl OpenLevy {
         register: &[RegisterEntry],
         strip: &mut [Line],
     ) -> Result<Written<LaunchedZone>, Refused<OpenLevy>>
-        ensures answer { written_answer launched_on (tables roll.new register.now) strip.new result ≡ settling (meaning sheet.now) self.figures self.launch_date (tables roll.old register.now) (length strip.old) self.event }
-        ensures strip { strip.new ≡ strip_after strip.old (settling (meaning sheet.now) self.figures self.launch_date (tables roll.old register.now) (length strip.old) self.event) }
+        ensures answer { written_answer launched_on (tables roll.new register.now) strip.new result ≡ settling (T.meaning sheet.now) self.figures self.launch_date (tables roll.old register.now) (length strip.old) self.event }
+        ensures strip { strip.new ≡ strip_after strip.old (settling (T.meaning sheet.now) self.figures self.launch_date (tables roll.old register.now) (length strip.old) self.event) }
         ensures kept { IfErr result (λ back. (back.kept ≡ self) × (roll.new ≡ roll.old)) }
-        ensures life { LivesOn (meaning sheet.now) (levied_on self (tables roll.old register.now)) call_share_out (written_answer launched_on (tables roll.new register.now) strip.new result) }
+        ensures life { LivesOn (T.meaning sheet.now) (levied_on self (tables roll.old register.now)) call_share_out (written_answer launched_on (tables roll.new register.now) strip.new result) }
     {
         self.settled(sheet, roll, register, strip)
     }
@@ -43,8 +43,8 @@ impl OpenLevy {
         register: &[RegisterEntry],
         strip: &mut [Line],
     ) -> Result<Written<LaunchedZone>, Refused<OpenLevy>>
-        ensures answer { written_answer launched_on (tables roll.new register.now) strip.new result ≡ settling (meaning sheet.now) self.figures self.launch_date (tables roll.old register.now) (length strip.old) self.event }
-        ensures strip { strip.new ≡ strip_after strip.old (settling (meaning sheet.now) self.figures self.launch_date (tables roll.old register.now) (length strip.old) self.event) }
+        ensures answer { written_answer launched_on (tables roll.new register.now) strip.new result ≡ settling (T.meaning sheet.now) self.figures self.launch_date (tables roll.old register.now) (length strip.old) self.event }
+        ensures strip { strip.new ≡ strip_after strip.old (settling (T.meaning sheet.now) self.figures self.launch_date (tables roll.old register.now) (length strip.old) self.event) }
         ensures kept { IfErr result (λ back. (back.kept ≡ self) × (roll.new ≡ roll.old)) }
     {
         let index = year_index(self.launch_date, self.event.date);

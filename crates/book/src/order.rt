@@ -58,7 +58,7 @@ pub(crate) fn check_installation<T: Tariff>(
     places: usize,
     object: &RegisterEntry,
 ) -> Result<(), Refusal>
-    ensures answer { result ≡ in_turn (tables_check figures.now (tables roll.now register.now) ∷ []) (date_checks figures.now object.now.installed ∷ (index_check launch_date object.now.installed ∷ []) ∷ register_checks figures.now (tables roll.now register.now) object.now ∷ (price_check (meaning sheet.now) (object.now ∷ []) ∷ []) ∷ ((nat_lt places figures.now.operators ⇒ StripTooShort) ∷ []) ∷ []) }
+    ensures answer { result ≡ in_turn (tables_check figures.now (tables roll.now register.now) ∷ []) (date_checks figures.now object.now.installed ∷ (index_check launch_date object.now.installed ∷ []) ∷ register_checks figures.now (tables roll.now register.now) object.now ∷ (price_check (T.meaning sheet.now) (object.now ∷ []) ∷ []) ∷ ((nat_lt places figures.now.operators ⇒ StripTooShort) ∷ []) ∷ []) }
 {
     check_tables(figures, roll, register)?;
     check_date(figures, object.installed)?;
@@ -78,7 +78,7 @@ pub(crate) fn check_billing<T: Tariff>(
     places: usize,
     event: &Event,
 ) -> Result<(), Refusal>
-    ensures answer { result ≡ in_turn (tables_check figures.now (tables roll.now register.now) ∷ []) (date_checks figures.now event.now.date ∷ (index_check launch_date event.now.date ∷ []) ∷ roll_checks figures.now (tables roll.now register.now) event.now ∷ (price_check (meaning sheet.now) (take figures.now.objects register.now) ∷ []) ∷ (coefficient_check (meaning sheet.now) event.now.date (take figures.now.objects register.now) ∷ []) ∷ ((nat_lt places (lines_billed event.now.date (take figures.now.objects register.now)) ⇒ StripTooShort) ∷ []) ∷ []) }
+    ensures answer { result ≡ in_turn (tables_check figures.now (tables roll.now register.now) ∷ []) (date_checks figures.now event.now.date ∷ (index_check launch_date event.now.date ∷ []) ∷ roll_checks figures.now (tables roll.now register.now) event.now ∷ (price_check (T.meaning sheet.now) (take figures.now.objects register.now) ∷ []) ∷ (coefficient_check (T.meaning sheet.now) event.now.date (take figures.now.objects register.now) ∷ []) ∷ ((nat_lt places (lines_billed event.now.date (take figures.now.objects register.now)) ⇒ StripTooShort) ∷ []) ∷ []) }
 {
     check_tables(figures, roll, register)?;
     check_date(figures, event.date)?;
@@ -96,7 +96,7 @@ fn check_bill<T: Tariff>(
     places: usize,
 ) -> Result<(), Refusal>
     requires { counted ≤ length register.now }
-    ensures answer { result ≡ in_turn (price_check (meaning sheet.now) (take counted register.now) ∷ []) ((coefficient_check (meaning sheet.now) date (take counted register.now) ∷ []) ∷ ((nat_lt places (lines_billed date (take counted register.now)) ⇒ StripTooShort) ∷ []) ∷ []) }
+    ensures answer { result ≡ in_turn (price_check (T.meaning sheet.now) (take counted register.now) ∷ []) ((coefficient_check (T.meaning sheet.now) date (take counted register.now) ∷ []) ∷ ((nat_lt places (lines_billed date (take counted register.now)) ⇒ StripTooShort) ∷ []) ∷ []) }
 {
     let objects = &register[0..counted];
     check_prices(sheet, objects)?;
@@ -117,7 +117,7 @@ pub(crate) fn check_share_out<T: Tariff>(
     requires index { index ≤ most_index }
     requires operators { figures.now.operators ≤ most_operators }
     requires objects { figures.now.objects ≤ most_objects }
-    ensures answer { result ≡ in_turn (tables_check figures.now (tables roll.now register.now) ∷ []) (roll_checks figures.now (tables roll.now register.now) event.now ∷ (price_check (meaning sheet.now) (take figures.now.objects register.now) ∷ []) ∷ ((nat_lt places (lines_shared (meaning sheet.now) (addition index event.now (members_of (take figures.now.operators roll.now))) (take figures.now.objects register.now) (members_of (take figures.now.operators roll.now))) ⇒ StripTooShort) ∷ []) ∷ []) }
+    ensures answer { result ≡ in_turn (tables_check figures.now (tables roll.now register.now) ∷ []) (roll_checks figures.now (tables roll.now register.now) event.now ∷ (price_check (T.meaning sheet.now) (take figures.now.objects register.now) ∷ []) ∷ ((nat_lt places (lines_shared (T.meaning sheet.now) (addition index event.now (members_of (take figures.now.operators roll.now))) (take figures.now.objects register.now) (members_of (take figures.now.operators roll.now))) ⇒ StripTooShort) ∷ []) ∷ []) }
 {
     check_tables(figures, roll, register)?;
     check_roll(figures, roll, register, event)?;
@@ -151,7 +151,7 @@ fn check_shares<T: Tariff>(
     requires long_roll { operators ≤ length roll.now }
     requires register { any (λ o. one_of (object_faults o)) (take objects register.now) ≡ false }
     requires roll { any (λ e. one_of (entry_faults e)) (take operators roll.now) ≡ false }
-    ensures answer { result ≡ in_turn (price_check (meaning sheet.now) (take objects register.now) ∷ []) (((nat_lt places (lines_shared (meaning sheet.now) (addition_in increase) (take objects register.now) (members_of (take operators roll.now))) ⇒ StripTooShort) ∷ []) ∷ []) }
+    ensures answer { result ≡ in_turn (price_check (T.meaning sheet.now) (take objects register.now) ∷ []) (((nat_lt places (lines_shared (T.meaning sheet.now) (addition_in increase) (take objects register.now) (members_of (take operators roll.now))) ⇒ StripTooShort) ∷ []) ∷ []) }
 {
     let counted = &register[..objects];
     check_prices(sheet, counted)?;

@@ -33,15 +33,15 @@ pub(crate) fn settle<T: Tariff>(
     requires register { any (λ o. one_of (object_faults o)) register.now ≡ false }
     requires roll { any (λ e. one_of (entry_faults e)) (take counted roll.old) ≡ false }
     requires place { length (entered_roll (addition_in increase) (take counted roll.old)) ≤ length roll.old }
-    requires room { length (credits (meaning sheet.now) (addition_in increase) register.now (members_of (take counted roll.old))) ≤ length strip.old }
-    ensures contributed { result.0.contributed ≡ total (object_contribution (meaning sheet.now) (addition_in increase)) register.now }
-    ensures credited { result.0.credited ≡ total (λ l. l.total) (credits (meaning sheet.now) (addition_in increase) register.now (members_of (take counted roll.old))) }
-    ensures unshared { result.0.unshared ≡ left_unshared (meaning sheet.now) (addition_in increase) register.now (members_of (take counted roll.old)) }
-    ensures lines { result.0.credit_lines ≡ length (credits (meaning sheet.now) (addition_in increase) register.now (members_of (take counted roll.old))) }
+    requires room { length (credits (T.meaning sheet.now) (addition_in increase) register.now (members_of (take counted roll.old))) ≤ length strip.old }
+    ensures contributed { result.0.contributed ≡ total (object_contribution (T.meaning sheet.now) (addition_in increase)) register.now }
+    ensures credited { result.0.credited ≡ total (λ l. l.total) (credits (T.meaning sheet.now) (addition_in increase) register.now (members_of (take counted roll.old))) }
+    ensures unshared { result.0.unshared ≡ left_unshared (T.meaning sheet.now) (addition_in increase) register.now (members_of (take counted roll.old)) }
+    ensures lines { result.0.credit_lines ≡ length (credits (T.meaning sheet.now) (addition_in increase) register.now (members_of (take counted roll.old))) }
     ensures most { (result.0.contributed ≤ 102400000000000000) × (result.0.credited ≤ 1638400000000000000) × (result.0.unshared ≤ 102400000000000000) × (result.0.credit_lines ≤ 16384) }
-    ensures strip { strip.new ≡ written (credits (meaning sheet.now) (addition_in increase) register.now (members_of (take counted roll.old))) strip.old }
-    ensures roll { roll.new ≡ written (entered_roll (addition_in increase) (credited_roll (meaning sheet.now) (addition_in increase) register.now (take counted roll.old))) roll.old }
-    ensures number { result.1 ≡ length (entered_roll (addition_in increase) (credited_roll (meaning sheet.now) (addition_in increase) register.now (take counted roll.old))) }
+    ensures strip { strip.new ≡ written (credits (T.meaning sheet.now) (addition_in increase) register.now (members_of (take counted roll.old))) strip.old }
+    ensures roll { roll.new ≡ written (entered_roll (addition_in increase) (credited_roll (T.meaning sheet.now) (addition_in increase) register.now (take counted roll.old))) roll.old }
+    ensures number { result.1 ≡ length (entered_roll (addition_in increase) (credited_roll (T.meaning sheet.now) (addition_in increase) register.now (take counted roll.old))) }
 {
     let totals = share_out(sheet, increase, register, &mut roll[..counted], strip);
     let operators = enter(increase, roll, counted);

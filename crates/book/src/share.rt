@@ -25,7 +25,7 @@ pub(crate) fn contribution_of<T: Tariff>(
 ) -> u64
     requires few { increase.tranches ≤ most_tranches }
     requires sound { one_of (object_faults object.now) ≡ false }
-    ensures value { result ≡ object_contribution (meaning sheet.now) (addition_in increase) object.now }
+    ensures value { result ≡ object_contribution (T.meaning sheet.now) (addition_in increase) object.now }
     ensures most { result ≤ 100000000000000 }
 {
     unit_contribution(sheet, object, increase.date, increase.tranches) * u64::from(object.dwellings)
@@ -61,13 +61,13 @@ pub(crate) fn share_out<T: Tariff>(
     requires operators { length roll.old ≤ most_operators }
     requires register { any (λ o. one_of (object_faults o)) register.now ≡ false }
     requires roll { any (λ e. one_of (entry_faults e)) roll.old ≡ false }
-    requires room { length (credits (meaning sheet.now) (addition_in increase) register.now (members_of roll.old)) ≤ length strip.old }
-    ensures contributed { result.contributed ≡ total (object_contribution (meaning sheet.now) (addition_in increase)) register.now }
-    ensures credited { result.credited ≡ total (λ l. l.total) (credits (meaning sheet.now) (addition_in increase) register.now (members_of roll.old)) }
-    ensures unshared { result.unshared ≡ left_unshared (meaning sheet.now) (addition_in increase) register.now (members_of roll.old) }
-    ensures number { result.credit_lines ≡ length (credits (meaning sheet.now) (addition_in increase) register.now (members_of roll.old)) }
-    ensures strip { strip.new ≡ written (credits (meaning sheet.now) (addition_in increase) register.now (members_of roll.old)) strip.old }
-    ensures roll { roll.new ≡ credited_roll (meaning sheet.now) (addition_in increase) register.now roll.old }
+    requires room { length (credits (T.meaning sheet.now) (addition_in increase) register.now (members_of roll.old)) ≤ length strip.old }
+    ensures contributed { result.contributed ≡ total (object_contribution (T.meaning sheet.now) (addition_in increase)) register.now }
+    ensures credited { result.credited ≡ total (λ l. l.total) (credits (T.meaning sheet.now) (addition_in increase) register.now (members_of roll.old)) }
+    ensures unshared { result.unshared ≡ left_unshared (T.meaning sheet.now) (addition_in increase) register.now (members_of roll.old) }
+    ensures number { result.credit_lines ≡ length (credits (T.meaning sheet.now) (addition_in increase) register.now (members_of roll.old)) }
+    ensures strip { strip.new ≡ written (credits (T.meaning sheet.now) (addition_in increase) register.now (members_of roll.old)) strip.old }
+    ensures roll { roll.new ≡ credited_roll (T.meaning sheet.now) (addition_in increase) register.now roll.old }
     ensures most { (result.contributed ≤ 102400000000000000) × (result.credited ≤ 1638400000000000000) × (result.unshared ≤ 102400000000000000) × (result.credit_lines ≤ 16384) }
 {
     let whole = whole_weight(sheet, roll, increase.index);
@@ -104,7 +104,7 @@ fn lines_of_amount<T: Tariff>(sheet: &T, amount: u64, roll: &[RollEntry], index:
     requires index { index ≤ most_index }
     requires few { length roll.now ≤ most_operators }
     requires sound { any (λ e. one_of (entry_faults e)) roll.now ≡ false }
-    ensures number { result ≡ amount_lines (meaning sheet.now) index amount (members_of roll.now) }
+    ensures number { result ≡ amount_lines (T.meaning sheet.now) index amount (members_of roll.now) }
     ensures most { result ≤ most_operators }
 {
     let mut lines = 0usize;
@@ -130,7 +130,7 @@ pub(crate) fn lines_shared<T: Tariff>(
     requires operators { length roll.now ≤ most_operators }
     requires register { any (λ o. one_of (object_faults o)) register.now ≡ false }
     requires roll { any (λ e. one_of (entry_faults e)) roll.now ≡ false }
-    ensures number { result ≡ lines_shared (meaning sheet.now) (addition_in increase) register.now (members_of roll.now) }
+    ensures number { result ≡ lines_shared (T.meaning sheet.now) (addition_in increase) register.now (members_of roll.now) }
 {
     let mut lines = 0usize;
     for object in register {

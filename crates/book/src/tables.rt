@@ -62,7 +62,7 @@ impl Entry for RegisterEntry {
 
 // Whether some entry is outside its limits.
 pub(crate) fn any_faulty<E: Entry>(entries: &[E]) -> bool
-    ensures value { result ≡ any faulty entries.now }
+    ensures value { result ≡ any E.faulty entries.now }
 {
     for item in entries {
         if item.is_faulty() {
@@ -74,7 +74,7 @@ pub(crate) fn any_faulty<E: Entry>(entries: &[E]) -> bool
 
 // Whether some entry has a number.
 pub(crate) fn has_number<E: Entry>(entries: &[E], number: u32) -> bool
-    ensures value { result ≡ any (λ x. nat_eq (numbered x) number) entries.now }
+    ensures value { result ≡ any (λ x. nat_eq (E.numbered x) number) entries.now }
 {
     for item in entries {
         if item.number() == number {
@@ -86,7 +86,7 @@ pub(crate) fn has_number<E: Entry>(entries: &[E], number: u32) -> bool
 
 // Whether two entries have one number.
 pub(crate) fn repeats_number<E: Entry>(entries: &[E]) -> bool
-    ensures value { result ≡ repeats numbered entries.now }
+    ensures value { result ≡ repeats E.numbered entries.now }
 {
     for place in 0..entries.len() {
         if has_number(&entries[place + 1..], entries[place].number()) {

@@ -33,7 +33,7 @@ impl RollEntry {
 pub(crate) fn weight_to<T: Tariff>(sheet: &T, tranches: &[u32; YEARS], index: u32) -> u64
     requires index { index ≤ most_index }
     requires rate { rate_of tranches.now ≤ most_tranches }
-    ensures value { result ≡ weight_to (meaning sheet.now) index tranches.now }
+    ensures value { result ≡ weight_to (T.meaning sheet.now) index tranches.now }
     ensures most { result ≤ 4000 }
 {
     let mut weight = 0u64;
@@ -48,7 +48,7 @@ pub(crate) fn whole_weight<T: Tariff>(sheet: &T, roll: &[RollEntry], index: u32)
     requires index { index ≤ most_index }
     requires few { length roll.now ≤ most_operators }
     requires sound { any (λ e. one_of (entry_faults e)) roll.now ≡ false }
-    ensures value { result ≡ whole_weight (meaning sheet.now) index (members_of roll.now) }
+    ensures value { result ≡ whole_weight (T.meaning sheet.now) index (members_of roll.now) }
     ensures most { result ≤ 64000 }
 {
     let mut whole = 0u32;

@@ -11,7 +11,7 @@ use tariff::tariff::Tariff;
 
 // The price of a link, or why there is none.
 pub fn link_price<T: Tariff>(sheet: &T, order: &Order) -> Result<Quotation, Refusal>
-    ensures answer { result ≡ link_quotation (meaning sheet.now) order.now }
+    ensures answer { result ≡ link_quotation (T.meaning sheet.now) order.now }
 {
     let place = place_of(sheet, order)?;
     Ok(link_at(sheet, place))
@@ -19,7 +19,7 @@ pub fn link_price<T: Tariff>(sheet: &T, order: &Order) -> Result<Quotation, Refu
 
 // The price of an extra fibre on a link, or why there is none.
 pub fn fibre_price<T: Tariff>(sheet: &T, order: &Order) -> Result<Quotation, Refusal>
-    ensures answer { result ≡ fibre_quotation (meaning sheet.now) order.now }
+    ensures answer { result ≡ fibre_quotation (T.meaning sheet.now) order.now }
 {
     let place = place_of(sheet, order)?;
     Ok(fibre_at(sheet, place))
@@ -27,7 +27,7 @@ pub fn fibre_price<T: Tariff>(sheet: &T, order: &Order) -> Result<Quotation, Ref
 
 // All checks of an order, and what it is priced by.
 fn place_of<T: Tariff>(sheet: &T, order: &Order) -> Result<Place, Refusal>
-    ensures answer { result ≡ placed (meaning sheet.now) order.now }
+    ensures answer { result ≡ placed (T.meaning sheet.now) order.now }
     ensures limits { IfOk result PlaceLimits }
 {
     check_dates(order)?;
@@ -52,7 +52,7 @@ fn check_dates(order: &Order) -> Result<(), Refusal>
 
 // Whether an order is ab initio, or by which coefficient it is ex post.
 fn basis_of<T: Tariff>(sheet: &T, order: &Order) -> Result<Basis, Refusal>
-    ensures answer { result ≡ basis_checked (meaning sheet.now) order.now }
+    ensures answer { result ≡ basis_checked (T.meaning sheet.now) order.now }
 {
     match order.service {
         Some(service) if service < order.ordered => {
@@ -67,7 +67,7 @@ fn basis_of<T: Tariff>(sheet: &T, order: &Order) -> Result<Basis, Refusal>
 
 fn link_at<T: Tariff>(sheet: &T, place: Place) -> Quotation
     requires { PlaceLimits place }
-    ensures value { result ≡ link_at (meaning sheet.now) place }
+    ensures value { result ≡ link_at (T.meaning sheet.now) place }
 {
     let Place { basis, row, column } = place;
     let price = price_on(
@@ -81,7 +81,7 @@ fn link_at<T: Tariff>(sheet: &T, place: Place) -> Quotation
 
 fn fibre_at<T: Tariff>(sheet: &T, place: Place) -> Quotation
     requires { PlaceLimits place }
-    ensures value { result ≡ fibre_at (meaning sheet.now) place }
+    ensures value { result ≡ fibre_at (T.meaning sheet.now) place }
 {
     let Place { basis, row, column } = place;
     let extra = extra_price(row, column.min(4));
@@ -93,7 +93,7 @@ fn fibre_at<T: Tariff>(sheet: &T, place: Place) -> Quotation
 fn price_on<T: Tariff>(sheet: &T, basis: Basis, first: u64, reference: u64) -> u64
     requires limits { BasisLimits basis }
     requires most { reference ≤ 16572000000 }
-    ensures value { result ≡ price_on (meaning sheet.now) basis first reference }
+    ensures value { result ≡ price_on (T.meaning sheet.now) basis first reference }
 {
     match basis {
         Basis::AbInitio => first,

@@ -125,7 +125,7 @@ fn on_dated(records: &[Dated<Prices>], request: &Request) -> Result<Quotation, R
 
 // The price of what is asked for, or why there is none.
 fn price_of<T: Tariff>(sheet: &T, request: &Request) -> Result<Quotation, Refusal>
-    ensures value { result ≡ priced (meaning sheet.now) request.now }
+    ensures value { result ≡ priced (T.meaning sheet.now) request.now }
 {
     match request.item {
         Item::Link => link_price(sheet, &request.order),

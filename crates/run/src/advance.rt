@@ -29,8 +29,8 @@ pub(crate) fn advance<'a, T: Tariff>(
 ) -> Result<bool, Notice<'a>>
     requires register { length register.old ≤ 64 }
     requires strip { length strip.old ≡ 1024 }
-    ensures notices { noticed result ≡ notices (meaning sheet.now) (state_in zone.old (tables roll.old register.old)) (tells_at (step_at reader.old.bytes.now reader.old.position)) }
-    ensures after { state_in zone.new (tables roll.new register.new) ≡ lived (meaning sheet.now) (state_in zone.old (tables roll.old register.old)) (steps_told (tells_at (step_at reader.old.bytes.now reader.old.position))) }
+    ensures notices { noticed result ≡ notices (T.meaning sheet.now) (state_in zone.old (tables roll.old register.old)) (tells_at (step_at reader.old.bytes.now reader.old.position)) }
+    ensures after { state_in zone.new (tables roll.new register.new) ≡ lived (T.meaning sheet.now) (state_in zone.old (tables roll.old register.old)) (steps_told (tells_at (step_at reader.old.bytes.now reader.old.position))) }
     ensures position { reader.new.position ≡ step_after reader.old.bytes.now reader.old.position }
     ensures kept { reader.new.bytes ≡ reader.old.bytes }
     ensures goes { Goes reader.old.bytes.now reader.old.position reader.new.position result }

@@ -25,7 +25,7 @@ fn billed<T: Tariff>(
     operator: u32,
     rate: u32,
 ) -> Result<Written<OpenLevy>, Refused<LaunchedZone>>
-    ensures answer { written_answer levied_on (tables roll.now register.now) strip.new result ≡ billing (meaning sheet.now) zone.figures zone.launch_date (tables roll.now register.now) (length strip.old) (change_event change date operator rate) }
+    ensures answer { written_answer levied_on (tables roll.now register.now) strip.new result ≡ billing (T.meaning sheet.now) zone.figures zone.launch_date (tables roll.now register.now) (length strip.old) (change_event change date operator rate) }
     ensures kept { IfErr result (λ back. back.kept ≡ zone) }
 {
     match change {
@@ -48,7 +48,7 @@ pub(crate) fn shared<T: Tariff>(
 ) -> Result<LaunchedZone, Refused<LaunchedZone>>
     requires register { length register.now ≤ 64 }
     requires strip { length strip.old ≡ 1024 }
-    ensures answer { StaysLaunched (meaning sheet.now) (launched_on zone (tables roll.old register.now)) (change_call change date operator rate) (tables roll.new register.now) result }
+    ensures answer { StaysLaunched (T.meaning sheet.now) (launched_on zone (tables roll.old register.now)) (change_call change date operator rate) (tables roll.new register.now) result }
 {
     let Written {
         zone: levy,

@@ -23,7 +23,7 @@ pub(crate) fn opened<T: Tariff>(
     dwellings: u32,
 ) -> Result<LaunchedZone, Refused<LaunchedZone>>
     requires { length strip.old ≡ 1024 }
-    ensures answer { StaysLaunched (meaning sheet.now) (launched_on zone (tables roll.now register.old)) (opening date object dwellings) (tables roll.now register.new) result }
+    ensures answer { StaysLaunched (T.meaning sheet.now) (launched_on zone (tables roll.now register.old)) (opening date object dwellings) (tables roll.now register.new) result }
 {
     let Written {
         zone: after,
@@ -44,7 +44,7 @@ pub(crate) fn cabled<T: Tariff>(
     dwellings: u32,
 ) -> Result<LaunchedZone, Refused<LaunchedZone>>
     requires { length strip.old ≡ 1024 }
-    ensures answer { StaysLaunched (meaning sheet.now) (launched_on zone (tables roll.now register.old)) (cabling date object third_party dwellings) (tables roll.now register.new) result }
+    ensures answer { StaysLaunched (T.meaning sheet.now) (launched_on zone (tables roll.now register.old)) (cabling date object third_party dwellings) (tables roll.now register.new) result }
 {
     let Written {
         zone: after,

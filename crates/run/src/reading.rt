@@ -33,8 +33,8 @@ fn read_on<'a, T: Tariff>(
     requires register { length register.old ≤ 64 }
     requires strip { length strip.old ≡ 1024 }
     requires room { vec_len notices.old + places reader.old.bytes.now ≤ vec_capacity notices.old }
-    ensures notices { each shown_notice notices.new.items ≡ each shown_notice notices.old.items ++ notices_of (meaning sheet.now) (state_in zone.old (tables roll.old register.old)) (file_tells reader.old.bytes.now) }
-    ensures after { state_in zone.new (tables roll.new register.new) ≡ lived (meaning sheet.now) (state_in zone.old (tables roll.old register.old)) (steps_told (file_tells reader.old.bytes.now)) }
+    ensures notices { each shown_notice notices.new.items ≡ each shown_notice notices.old.items ++ notices_of (T.meaning sheet.now) (state_in zone.old (tables roll.old register.old)) (file_tells reader.old.bytes.now) }
+    ensures after { state_in zone.new (tables roll.new register.new) ≡ lived (T.meaning sheet.now) (state_in zone.old (tables roll.old register.old)) (steps_told (file_tells reader.old.bytes.now)) }
 {
     loop {
         match advance(reader, zone, sheet, roll, register, strip) {
@@ -61,8 +61,8 @@ pub(crate) fn read_file<'a, T: Tariff>(
     requires register { length register.old ≤ 64 }
     requires strip { length strip.old ≡ 1024 }
     requires room { vec_len notices.old + 2176 ≤ vec_capacity notices.old }
-    ensures notices { each shown_notice notices.new.items ≡ each shown_notice notices.old.items ++ notices_of (meaning sheet.now) (state_in zone.old (tables roll.old register.old)) (file_tells bytes.now) }
-    ensures after { state_in zone.new (tables roll.new register.new) ≡ lived (meaning sheet.now) (state_in zone.old (tables roll.old register.old)) (steps_told (file_tells bytes.now)) }
+    ensures notices { each shown_notice notices.new.items ≡ each shown_notice notices.old.items ++ notices_of (T.meaning sheet.now) (state_in zone.old (tables roll.old register.old)) (file_tells bytes.now) }
+    ensures after { state_in zone.new (tables roll.new register.new) ≡ lived (T.meaning sheet.now) (state_in zone.old (tables roll.old register.old)) (steps_told (file_tells bytes.now)) }
 {
     match Reader::open(bytes) {
         Ok(mut reader) => read_on(&mut reader, zone, sheet, roll, register, strip, notices),

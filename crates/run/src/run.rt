@@ -44,13 +44,13 @@ pub fn run<'a, T: Tariff>(
     roll: &mut [RollEntry; ROLL_PLACES],
     register: &mut [RegisterEntry; REGISTER_PLACES],
 ) -> Result<Report<'a>, AllocError>
-    ensures notices { IfOk result (λ x. each shown_notice x.notices.items ≡ file_notices (meaning sheet.now) (tables roll.old register.old) bytes.now) }
-    ensures figures { IfOk result (λ x. x.figures ≡ (ending (meaning sheet.now) (tables roll.old register.old) bytes.now).figures) }
-    ensures tables { OnOk result (tables roll.new register.new ≡ (ending (meaning sheet.now) (tables roll.old register.old) bytes.now).tables) }
-    ensures held { IfOk result (λ x. (x.held.negative ≡ below_zero x.figures.totals.contributed (paid_out (ending (meaning sheet.now) (tables roll.old register.old) bytes.now))) × (x.held.amount.micros ≡ apart x.figures.totals.contributed (paid_out (ending (meaning sheet.now) (tables roll.old register.old) bytes.now)))) }
-    ensures closed { OnOk result (Closed (ending (meaning sheet.now) (tables roll.old register.old) bytes.now).phase) }
+    ensures notices { IfOk result (λ x. each shown_notice x.notices.items ≡ file_notices (T.meaning sheet.now) (tables roll.old register.old) bytes.now) }
+    ensures figures { IfOk result (λ x. x.figures ≡ (ending (T.meaning sheet.now) (tables roll.old register.old) bytes.now).figures) }
+    ensures tables { OnOk result (tables roll.new register.new ≡ (ending (T.meaning sheet.now) (tables roll.old register.old) bytes.now).tables) }
+    ensures held { IfOk result (λ x. (x.held.negative ≡ below_zero x.figures.totals.contributed (paid_out (ending (T.meaning sheet.now) (tables roll.old register.old) bytes.now))) × (x.held.amount.micros ≡ apart x.figures.totals.contributed (paid_out (ending (T.meaning sheet.now) (tables roll.old register.old) bytes.now)))) }
+    ensures closed { OnOk result (Closed (ending (T.meaning sheet.now) (tables roll.old register.old) bytes.now).phase) }
     ensures kept { OnErr result ((roll.new ≡ roll.old) × (register.new ≡ register.old)) }
-    ensures life { RunsAsLife (meaning sheet.now) (tables roll.old register.old) bytes.now }
+    ensures life { RunsAsLife (T.meaning sheet.now) (tables roll.old register.old) bytes.now }
 {
     let mut notices = Vec::with_capacity(heap, MOST_NOTICES)?;
     let mut zone = Zone::Prepared(PreparedZone::new());

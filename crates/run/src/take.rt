@@ -46,8 +46,8 @@ impl Zone {
     ) -> Result<(), Refusal>
         requires register { length register.old ≤ 64 }
         requires strip { length strip.old ≡ 1024 }
-        ensures answer { result ≡ answered_as (refusal_to (meaning sheet.now) (state_in self.old (tables roll.old register.old)) (call_of (shown_event event.entry))) }
-        ensures after { state_in self.new (tables roll.new register.new) ≡ lived (meaning sheet.now) (state_in self.old (tables roll.old register.old)) (steps_for (call_of (shown_event event.entry))) }
+        ensures answer { result ≡ answered_as (refusal_to (T.meaning sheet.now) (state_in self.old (tables roll.old register.old)) (call_of (shown_event event.entry))) }
+        ensures after { state_in self.new (tables roll.new register.new) ≡ lived (T.meaning sheet.now) (state_in self.old (tables roll.old register.old)) (steps_for (call_of (shown_event event.entry))) }
     {
         let before = mem::replace(self, Zone::Prepared(PreparedZone::new()));
         match taken(before, sheet, roll, register, strip, event) {
@@ -75,7 +75,7 @@ fn taken<T: Tariff>(
 ) -> Result<Zone, Kept>
     requires register { length register.old ≤ 64 }
     requires strip { length strip.old ≡ 1024 }
-    ensures answer { ComesTo (meaning sheet.now) (state_in zone (tables roll.old register.old)) (call_of (shown_event event.entry)) (tables roll.new register.new) result }
+    ensures answer { ComesTo (T.meaning sheet.now) (state_in zone (tables roll.old register.old)) (call_of (shown_event event.entry)) (tables roll.new register.new) result }
 {
     match zone {
         Zone::Prepared(prepared) => taken_before_launch(prepared, roll, register, event),
@@ -136,7 +136,7 @@ fn taken_after_launch<T: Tariff>(
 ) -> Result<LaunchedZone, Refused<LaunchedZone>>
     requires register { length register.old ≤ 64 }
     requires strip { length strip.old ≡ 1024 }
-    ensures answer { StaysLaunched (meaning sheet.now) (launched_on zone (tables roll.old register.old)) (call_of (shown_event event.entry)) (tables roll.new register.new) result }
+    ensures answer { StaysLaunched (T.meaning sheet.now) (launched_on zone (tables roll.old register.old)) (call_of (shown_event event.entry)) (tables roll.new register.new) result }
 {
     match event {
         Event::Commitment {

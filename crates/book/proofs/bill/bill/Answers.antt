@@ -10,17 +10,17 @@ use Rattle.book.proofs.bill.bill.Goals.{then-object-increase, else-object-increa
 abbrev blank : RegisterEntry
 blank = record { object = 0; kind = Covered; installed = 0; dwellings = 0 }
 
-pub unit-price-price-requires : goal.unit-price-price-requires
-unit-price-price-requires g c = record {
+pub unit_price-price-requires : goal.unit_price-price-requires
+unit_price-price-requires g c = record {
   few = c.requires.few;
   real = c.requires.real;
   sound = faultless_at c.args.register.now c.requires.sound c.loop-object.object-index blank c.loop-object-test.true;
 }
 
-pub line-of-requires : goal.line-of-requires
-line-of-requires g c =
+pub line_of-requires : goal.line_of-requires
+line_of-requires g c =
     let s = (sized_at c.args.register.now c.requires.sound c.loop-object.object-index blank c.loop-object-test.true).0 in
-    let f = line_fits c.unit-price-price.result (get_or c.args.register.now c.loop-object.object-index blank).dwellings 40000000000 c.unit-price-price.ensures.most s in
+    let f = line_fits c.unit_price-price.result (get_or c.args.register.now c.loop-object.object-index blank).dwellings 40000000000 c.unit_price-price.ensures.most s in
     record { most = omega (arith, f) }
 
 pub bounds-strip-next : goal.bounds-strip-next
@@ -28,22 +28,22 @@ bounds-strip-next g c =
     let p = charge_place (g.T.Tariff.meaning c.args.sheet.now) (addition_in c.args.increase) c.args.register.now c.loop-object.object-index blank c.loop-object.invariant c.loop-object-test.true in
     omega (arith, p)
 
-pub unit-contribution-part-requires : goal.unit-contribution-part-requires
-unit-contribution-part-requires g c = record {
+pub unit_contribution-part-requires : goal.unit_contribution-part-requires
+unit_contribution-part-requires g c = record {
   few = c.requires.few;
   sound = faultless_at c.args.register.now c.requires.sound c.loop-object.object-index blank c.loop-object-test.true;
 }
 
-pub line-of-requires-then-object-increase : goal.line-of-requires-then-object-increase
-line-of-requires-then-object-increase g c =
+pub line_of-requires-then-object-increase : goal.line_of-requires-then-object-increase
+line_of-requires-then-object-increase g c =
     let s = (sized_at c.args.register.now c.requires.sound c.loop-object.object-index blank c.loop-object-test.true).0 in
-    let f = line_fits c.unit-contribution-part.result (get_or c.args.register.now c.loop-object.object-index blank).dwellings 10000000000 c.unit-contribution-part.ensures.most s in
+    let f = line_fits c.unit_contribution-part.result (get_or c.args.register.now c.loop-object.object-index blank).dwellings 10000000000 c.unit_contribution-part.ensures.most s in
     record { most = omega (arith, f) }
 
 pub bounds-strip-next-then-object-increase : goal.bounds-strip-next-then-object-increase
 bounds-strip-next-then-object-increase g c =
     let p = contribution_place (g.T.Tariff.meaning c.args.sheet.now) (addition_in c.args.increase) c.args.register.now c.loop-object.object-index blank c.loop-object.invariant c.loop-object-test.true
-    c.unit-price-price.result c.unit-price-price.ensures.value c.line-of.result c.line-of.ensures.value c.if-object-increase.true in
+    c.unit_price-price.result c.unit_price-price.ensures.value c.line_of.result c.line_of.ensures.value c.if-object-increase.true in
     simp length-set (omega (arith, p))
 
 pub loop-object-preserved : goal.loop-object-preserved
@@ -51,11 +51,11 @@ loop-object-preserved g c =
     elim c.if-object-increase.branch [
       | then-object-increase w ↦ rw (w.strip-is, w.next-is)
           (both_written (g.T.Tariff.meaning c.args.sheet.now) (addition_in c.args.increase) c.args.register.now c.loop-object.object-index blank c.loop-object.invariant c.loop-object-test.true
-          c.unit-price-price.result c.unit-price-price.ensures.value c.line-of.result c.line-of.ensures.value w.if-object-increase.true
-          w.unit-contribution-part.result w.unit-contribution-part.ensures.value w.line-of-then-object-increase.result w.line-of-then-object-increase.ensures.value)
+          c.unit_price-price.result c.unit_price-price.ensures.value c.line_of.result c.line_of.ensures.value w.if-object-increase.true
+          w.unit_contribution-part.result w.unit_contribution-part.ensures.value w.line_of-then-object-increase.result w.line_of-then-object-increase.ensures.value)
       | else-object-increase w ↦ rw (w.strip-is, w.next-is)
           (one_written (g.T.Tariff.meaning c.args.sheet.now) (addition_in c.args.increase) c.args.register.now c.loop-object.object-index blank c.loop-object.invariant c.loop-object-test.true
-          c.unit-price-price.result c.unit-price-price.ensures.value c.line-of.result c.line-of.ensures.value w.if-object-increase.false)
+          c.unit_price-price.result c.unit_price-price.ensures.value c.line_of.result c.line_of.ensures.value w.if-object-increase.false)
     ]
 
 pub returns : goal.returns

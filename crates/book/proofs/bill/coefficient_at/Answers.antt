@@ -5,5 +5,5 @@ use Rattle.book.proofs.bill.coefficient_at.Goals as goal
 
 pub returns : goal.returns
 returns g c = record {
-  value = c.unwrap-or.ensures ∙ or_else_is c.coefficient.result _ ∙ ap (or_else (record { numerator = 0; denominator = 1 })) c.coefficient.ensures.value;
+  value = c.unwrap_or.ensures ∙ or_else_is c.coefficient.result _ ∙ ap (or_else (record { numerator = 0; denominator = 1 })) c.coefficient.ensures.value;
 }

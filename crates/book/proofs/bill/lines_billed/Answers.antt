@@ -7,8 +7,8 @@ use Rattle.book.proofs.bill.lines_billed.Goals as goal
 pub loop-object-preserved : goal.loop-object-preserved
 loop-object-preserved c =
     let here = at_drop_more (lines_billed c.args.date) c.args.register.now c.loop-object.object-index no_object (omega arith) in
-    let step = c.lines-of-lines.ensures.number in
-    (omega (arith, c.lines-of-lines.ensures.most, c.loop-object.invariant.0), omega (arith, here, step, c.loop-object.invariant.1))
+    let step = c.lines_of-lines.ensures.number in
+    (omega (arith, c.lines_of-lines.ensures.most, c.loop-object.invariant.0), omega (arith, here, step, c.loop-object.invariant.1))
 
 pub returns : goal.returns
 returns c =

@@ -9,8 +9,8 @@ use Rattle.book.proofs.enter.enter.Goals as goal
 abbrev blank : RollEntry
 blank = record { operator = 0; tranches = []; balance = 0 }
 
-pub overflow-add-roll : goal.overflow-add-roll
-overflow-add-roll c =
+pub overflow_add-roll : goal.overflow_add-roll
+overflow_add-roll c =
     let roll = c.args.roll.now in
     let n = c.args.counted in
     let i = c.loop-place.place in

@@ -12,9 +12,9 @@ enter-operators-requires g c =
     record {
       few = c.requires.few;
       index = c.requires.index;
-      counted = omega (arith, credited_long m a os roll c.args.counted c.requires.counted _ c.share-out-totals.ensures.roll, c.requires.counted);
-      rates = credited_rates m a os roll c.args.counted c.requires.counted _ c.share-out-totals.ensures.roll c.requires.roll;
-      room = credited_room m a os roll c.args.counted c.requires.counted _ c.share-out-totals.ensures.roll c.requires.place;
+      counted = omega (arith, credited_long m a os roll c.args.counted c.requires.counted _ c.share_out-totals.ensures.roll, c.requires.counted);
+      rates = credited_rates m a os roll c.args.counted c.requires.counted _ c.share_out-totals.ensures.roll c.requires.roll;
+      room = credited_room m a os roll c.args.counted c.requires.counted _ c.share_out-totals.ensures.roll c.requires.place;
     }
 
 pub returns : goal.returns
@@ -24,12 +24,12 @@ returns g c =
     let os = c.args.register.now in
     let roll = c.args.roll.now in
     record {
-      contributed = c.share-out-totals.ensures.contributed;
-      credited = c.share-out-totals.ensures.credited;
-      unshared = c.share-out-totals.ensures.unshared;
-      lines = c.share-out-totals.ensures.number;
-      most = c.share-out-totals.ensures.most;
-      strip = c.share-out-totals.ensures.strip;
-      roll = credited_written m a os roll c.args.counted c.requires.counted _ c.share-out-totals.ensures.roll _ c.enter-operators.ensures.roll;
-      number = credited_count m a os roll c.args.counted c.requires.counted _ c.share-out-totals.ensures.roll _ c.enter-operators.ensures.number;
+      contributed = c.share_out-totals.ensures.contributed;
+      credited = c.share_out-totals.ensures.credited;
+      unshared = c.share_out-totals.ensures.unshared;
+      lines = c.share_out-totals.ensures.number;
+      most = c.share_out-totals.ensures.most;
+      strip = c.share_out-totals.ensures.strip;
+      roll = credited_written m a os roll c.args.counted c.requires.counted _ c.share_out-totals.ensures.roll _ c.enter-operators.ensures.roll;
+      number = credited_count m a os roll c.args.counted c.requires.counted _ c.share_out-totals.ensures.roll _ c.enter-operators.ensures.number;
     }

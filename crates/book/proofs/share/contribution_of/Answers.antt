@@ -10,8 +10,8 @@ product-in g c =
     let s = (sized_of c.args.object.now c.requires.sound).0 in
     line_fits c.unit_contribution.result c.from.result 10000000000 c.unit_contribution.ensures.most (omega (arith, c.from.ensures))
 
-pub overflow-mul-result : goal.overflow-mul-result
-overflow-mul-result g c = omega (arith, product-in g (goal.at.overflow-mul-result g c).After-from)
+pub overflow_mul-result : goal.overflow_mul-result
+overflow_mul-result g c = omega (arith, product-in g (goal.at.overflow_mul-result g c).After-from)
 
 pub returns : goal.returns
 returns g c = record {

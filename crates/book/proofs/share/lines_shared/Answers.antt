@@ -10,8 +10,8 @@ use Rattle.book.proofs.share.lines_shared.Goals as goal
 abbrev nothing : RegisterEntry
 nothing = record { object = 0; kind = Covered; installed = 0; dwellings = 0 }
 
-pub contribution-of-amount-requires : goal.contribution-of-amount-requires
-contribution-of-amount-requires g c = record {
+pub contribution_of-amount-requires : goal.contribution_of-amount-requires
+contribution_of-amount-requires g c = record {
   few = c.requires.few;
   sound = faultless_at c.args.register.now c.requires.register c.loop-object.object-index nothing (omega arith);
 }
@@ -20,7 +20,7 @@ pub loop-object-preserved : goal.loop-object-preserved
 loop-object-preserved g c =
     let m = g.T.Tariff.meaning c.args.sheet.now in
     let here = at_drop_more (λ os. lines_shared m (addition_in c.args.increase) os (members_of c.args.roll.now)) c.args.register.now c.loop-object.object-index nothing (omega arith) in
-    let own = ap (λ n. amount_lines m c.args.increase.index n (members_of c.args.roll.now)) c.contribution-of-amount.ensures.value in
+    let own = ap (λ n. amount_lines m c.args.increase.index n (members_of c.args.roll.now)) c.contribution_of-amount.ensures.value in
     (omega arith, omega (arith, here, own))
 
 pub returns : goal.returns

@@ -3,8 +3,8 @@ use Rattle.book.proofs.Amounts.{weight_most}
 use Rattle.book.proofs.Weighing.{weight_more, weight_fits, weight_whole}
 use Rattle.book.proofs.weights.weight_to.Goals as goal
 
-pub overflow-add-weight : goal.overflow-add-weight
-overflow-add-weight g c =
+pub overflow_add-weight : goal.overflow_add-weight
+overflow_add-weight g c =
     let b = weight_fits (g.T.Tariff.meaning c.args.sheet.now) (g.T.Tariff.lawful c.args.sheet.now) c.args.index c.args.tranches.now c.requires.index (omega arith) c.requires.rate
     c.loop-year.year c.loop-year.weight c.loop-year.invariant _ _ c.from.ensures (c.from-in-loop-year.ensures ∙ c.weight.ensures.value) (omega arith) in omega arith
 

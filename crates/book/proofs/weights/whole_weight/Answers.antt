@@ -8,8 +8,8 @@ use Rattle.book.proofs.weights.whole_weight.Goals as goal
 abbrev blank : RollEntry
 blank = record { operator = 0; tranches = []; balance = 0 }
 
-pub weight-to-requires : goal.weight-to-requires
-weight-to-requires g c = record {
+pub weight_to-requires : goal.weight_to-requires
+weight_to-requires g c = record {
   index = c.requires.index;
   rate = (sound_at c.args.roll.now c.requires.sound c.loop-member.member-index blank (omega arith)).rate;
 }

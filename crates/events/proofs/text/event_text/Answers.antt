@@ -42,7 +42,7 @@ returns-in-Cabling c =
     let t = c.label_text-label.result.now in
     let text = label_read c.label.result.now t (label_of x) c.label.ensures.value c.label_text-label.ensures.value in
     record {
-      value = described string_bytes _ x (cabling i.date i.object i.dwellings i.third-party i.label.now) t (object_text (codes "S") i.date i.object i.dwellings c.form_text-form.result.now) (ap shown_event i.is) c.format-in-Cabling.ensures.ok text (ap (λ z. object_text (codes "S") i.date i.object i.dwellings z i.label.now) c.form_text-form.ensures.value);
+      value = described string_bytes _ x (cabling i.date i.object i.dwellings i.third_party i.label.now) t (object_text (codes "S") i.date i.object i.dwellings c.form_text-form.result.now) (ap shown_event i.is) c.format-in-Cabling.ensures.ok text (ap (λ z. object_text (codes "S") i.date i.object i.dwellings z i.label.now) c.form_text-form.ensures.value);
     }
 
 pub returns-in-Launch : goal.returns-in-Launch

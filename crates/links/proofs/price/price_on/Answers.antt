@@ -5,4 +5,4 @@ pub invariant_of-rounded : goal.invariant_of-rounded
 invariant_of-rounded g c =
     let limits = rw c.in-ExPost.is at c.requires.limits in
     let most = mul-le-mul c.requires.most limits.most in
-    (rw c.from.ensures (omega arith), (limits.some, (limits.small, tt)))
+    record { most = rw c.from.ensures (omega arith); some = limits.some; small = limits.small }

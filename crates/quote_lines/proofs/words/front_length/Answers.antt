@@ -4,14 +4,14 @@ use Rattle.std.proofs.lemmas.Bool.{not-true, not-false}
 use Rattle.quote_lines.specs.Words.{blank_as}
 use Rattle.quote_lines.proofs.words.front_length.Goals as goal
 
-pub returns-then-not-is-blank-as : goal.returns-then-not-is-blank-as
-returns-then-not-is-blank-as c =
-    let stops = prefix_len-drop_no (blank_as c.args.blanks) c.args.bytes.now c.loop-count.count 0 c.loop-count-test.true (sym c.is-blank-as.ensures.value ∙ c.if-not-is-blank-as.true) in
+pub returns-then-not-is_blank_as : goal.returns-then-not-is_blank_as
+returns-then-not-is_blank_as c =
+    let stops = prefix_len-drop_no (blank_as c.args.blanks) c.args.bytes.now c.loop-count.count 0 c.loop-count-test.true (sym c.is_blank_as.ensures.value ∙ c.if-not-is_blank_as.true) in
     record { value = omega (arith, stops, c.loop-count.invariant); within = omega arith }
 
 pub loop-count-preserved : goal.loop-count-preserved
 loop-count-preserved c =
-    let more = prefix_len-drop_yes (blank_as c.args.blanks) c.args.bytes.now c.loop-count.count 0 c.loop-count-test.true (sym c.is-blank-as.ensures.value ∙ c.if-not-is-blank-as.false) in
+    let more = prefix_len-drop_yes (blank_as c.args.blanks) c.args.bytes.now c.loop-count.count 0 c.loop-count-test.true (sym c.is_blank_as.ensures.value ∙ c.if-not-is_blank_as.false) in
     omega (arith, more, c.loop-count.invariant)
 
 pub returns : goal.returns

@@ -12,5 +12,5 @@ returns c =
     let consumer = c.args.consumer.now in
     let request = c.args.request.now in
     let fits = (prices_fit desk_prices && terms_fit desk_terms) && (sound index_fits wages && sound index_fits consumer) in
-    let asked = c.price_of.ensures.value ∙ ap (λ m. priced m request) c.in-ok-fill.ensures.after in
-    record { value = asked ∙ made_of (making fits) _ _ c.in-ok-fill.ensures.answer }
+    let asked = c.price_of.ensures.value ∙ ap (λ m. priced m request) c.in_ok-fill.ensures.after in
+    record { value = asked ∙ made_of (making fits) _ _ c.in_ok-fill.ensures.answer }

@@ -8,7 +8,7 @@ use Rattle.book.specs.Increases.{addition_in}
 use Rattle.book.specs.Passing.{tables}
 use Rattle.book.proofs.Billed.{Billable, billable, billed_is, written_is, room_for, turned}
 use Rattle.book.proofs.launched.LaunchedZone.billed.Goals as goal
-use Rattle.book.proofs.launched.LaunchedZone.billed.Goals.{In-Ok, After-increase-of-increase}
+use Rattle.book.proofs.launched.LaunchedZone.billed.Goals.{In-Ok, After-increase_of-increase}
 use Rattle.book.proofs.launched.LaunchedZone.billed.Given as given
 
 able : (g : given.Over) (c : In-Ok g) → Billable (g.T.Tariff.meaning c.args.sheet.now) c.args.self.figures c.args.self.launch_date (tables c.args.roll.now c.args.register.now) (length c.args.strip.now) c.args.event
@@ -16,19 +16,19 @@ able g c =
     let m = g.T.Tariff.meaning c.args.sheet.now in
     let t = tables c.args.roll.now c.args.register.now in
     billable m c.args.self.figures c.args.self.launch_date t (length c.args.strip.now) c.args.event _
-    (turned m c.args.self.figures c.args.self.launch_date t (length c.args.strip.now) c.args.event _ c.check-billing.ensures.answer ∙ c.in-Ok.is)
+    (turned m c.args.self.figures c.args.self.launch_date t (length c.args.strip.now) c.args.event _ c.check_billing.ensures.answer ∙ c.in-Ok.is)
 
 -- the code's increase is what the event adds
-adds : (g : given.Over) (c : After-increase-of-increase g) → addition_in c.increase-of-increase.result ≡ added c.args.self.figures c.args.self.launch_date (tables c.args.roll.now c.args.register.now) c.args.event
+adds : (g : given.Over) (c : After-increase_of-increase g) → addition_in c.increase_of-increase.result ≡ added c.args.self.figures c.args.self.launch_date (tables c.args.roll.now c.args.register.now) c.args.event
 adds g c =
     let members = counted_members c.args.self.figures (tables c.args.roll.now c.args.register.now) in
-    c.increase-of-increase.ensures.value ∙ ap (λ n. addition n c.args.event members) c.year-index-index.ensures.value
+    c.increase_of-increase.ensures.value ∙ ap (λ n. addition n c.args.event members) c.year_index-index.ensures.value
 
-pub bill-counted-lines-requires : goal.bill-counted-lines-requires
-bill-counted-lines-requires g c =
+pub bill_counted-lines-requires : goal.bill_counted-lines-requires
+bill_counted-lines-requires g c =
     let m = g.T.Tariff.meaning c.args.sheet.now in
-    let a = able g (goal.at.bill-counted-lines-requires g c).In-Ok in
-    let is = adds g (goal.at.bill-counted-lines-requires g c).After-increase-of-increase in
+    let a = able g (goal.at.bill_counted-lines-requires g c).In-Ok in
+    let is = adds g (goal.at.bill_counted-lines-requires g c).After-increase_of-increase in
     record {
       long = a.tables_in.register_long;
       few = omega (arith, ap (λ x. x.tranches) is, a.few);
@@ -37,10 +37,10 @@ bill-counted-lines-requires g c =
       room = room_for m c.args.self.figures c.args.self.launch_date (tables c.args.roll.now c.args.register.now) (length c.args.strip.now) c.args.event _ is a.room;
     }
 
-pub invariant-of-zone : goal.invariant-of-zone
-invariant-of-zone g c =
-    let a = able g (goal.at.invariant-of-zone g c).In-Ok in
-    (c.args.self.few_operators, (c.args.self.few_objects, (a.in_time, tt)))
+pub invariant_of-zone : goal.invariant_of-zone
+invariant_of-zone g c =
+    let a = able g (goal.at.invariant_of-zone g c).In-Ok in
+    record { few_operators = c.args.self.few_operators; few_objects = c.args.self.few_objects; in_time = a.in_time }
 
 pub returns-in-Ok : goal.returns-in-Ok
 returns-in-Ok g c =
@@ -50,11 +50,11 @@ returns-in-Ok g c =
     let t = tables c.args.roll.now c.args.register.now in
     let places = length c.args.strip.now in
     let v = c.args.event in
-    let is = adds g (goal.at.returns-in-Ok g c).After-increase-of-increase in
-    let accepted = carried (first (billing_checks m f d t places v)) tt _ (λ _. billing_effect m f d t v) (turned m f d t places v _ c.check-billing.ensures.answer ∙ c.in-Ok.is) in
+    let is = adds g (goal.at.returns-in-Ok g c).After-increase_of-increase in
+    let accepted = carried (first (billing_checks m f d t places v)) tt _ (λ _. billing_effect m f d t v) (turned m f d t places v _ c.check_billing.ensures.answer ∙ c.in-Ok.is) in
     record {
-      answer = ap Ok (billed_is m f d t places v _ c.args.strip.now _ _ is c.bill-counted-lines.ensures.number c.bill-counted-lines.ensures.strip) ∙ accepted;
-      strip = written_is m f d t places v _ c.args.strip.now _ is c.bill-counted-lines.ensures.strip ∙ ap (strip_after c.args.strip.now) accepted;
+      answer = ap Ok (billed_is m f d t places v _ c.args.strip.now _ _ is c.bill_counted-lines.ensures.number c.bill_counted-lines.ensures.strip) ∙ accepted;
+      strip = written_is m f d t places v _ c.args.strip.now _ is c.bill_counted-lines.ensures.strip ∙ ap (strip_after c.args.strip.now) accepted;
       kept = tt;
     }
 
@@ -66,5 +66,5 @@ returns-in-Err g c =
     let t = tables c.args.roll.now c.args.register.now in
     let places = length c.args.strip.now in
     let v = c.args.event in
-    let refused = still_refused (first (billing_checks m f d t places v)) tt (billing_effect m f d t v) _ (turned m f d t places v _ c.check-billing.ensures.answer ∙ c.in-Err.is) in
+    let refused = still_refused (first (billing_checks m f d t places v)) tt (billing_effect m f d t v) _ (turned m f d t places v _ c.check_billing.ensures.answer ∙ c.in-Err.is) in
     record { answer = refused; strip = ap (strip_after c.args.strip.now) refused; kept = refl }

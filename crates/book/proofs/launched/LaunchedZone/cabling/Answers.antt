@@ -13,7 +13,7 @@ returns g c =
     let zone = c.args.self in
     let t = tables c.args.roll.now c.args.register.now in
     let places = length c.args.strip.now in
-    let site = c.site-entry-entry.ensures.value in
+    let site = c.site_entry-entry.ensures.value in
     record {
       answer = c.installed.ensures.answer ∙ ap (installation m zone.figures zone.launch_date t places) site;
       strip = c.installed.ensures.strip ∙ ap (λ e. strip_after c.args.strip.now (installation m zone.figures zone.launch_date t places e)) site;

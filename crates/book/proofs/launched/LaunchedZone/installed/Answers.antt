@@ -14,18 +14,18 @@ able g c =
     let m = g.T.Tariff.meaning c.args.sheet.now in
     let t = tables c.args.roll.now c.args.register.now in
     installable m c.args.self.figures c.args.self.launch_date t (length c.args.strip.now) c.args.object _
-    (turned m c.args.self.figures c.args.self.launch_date t (length c.args.strip.now) c.args.object _ c.check-installation.ensures.answer ∙ c.in-Ok.is)
+    (turned m c.args.self.figures c.args.self.launch_date t (length c.args.strip.now) c.args.object _ c.check_installation.ensures.answer ∙ c.in-Ok.is)
 
-pub charge-counted-lines-requires : goal.charge-counted-lines-requires
-charge-counted-lines-requires g c =
-    let a = able g (goal.at.charge-counted-lines-requires g c).In-Ok in
+pub charge_counted-lines-requires : goal.charge_counted-lines-requires
+charge_counted-lines-requires g c =
+    let a = able g (goal.at.charge_counted-lines-requires g c).In-Ok in
     record { long = a.tables_in.roll_long; object = a.object_sound; sound = a.tables_in.entries_sound; room = a.room }
 
 pub bounds-register-objects : goal.bounds-register-objects
 bounds-register-objects g c = let a = able g (goal.at.bounds-register-objects g c).In-Ok in omega (arith, a.space)
 
-pub invariant-of-zone : goal.invariant-of-zone
-invariant-of-zone g c = let a = able g (goal.at.invariant-of-zone g c).In-Ok in (c.args.self.few_operators, (omega (arith, a.fewer), tt))
+pub invariant_of-zone : goal.invariant_of-zone
+invariant_of-zone g c = let a = able g (goal.at.invariant_of-zone g c).In-Ok in record { few_operators = c.args.self.few_operators; few_objects = omega (arith, a.fewer) }
 
 pub returns-in-Ok : goal.returns-in-Ok
 returns-in-Ok g c =
@@ -36,10 +36,10 @@ returns-in-Ok g c =
     let places = length c.args.strip.now in
     let o = c.args.object in
     let a = able g (goal.at.returns-in-Ok g c).In-Ok in
-    let accepted = carried (first (installation_checks m f d t places o)) tt _ (λ _. installation_effect m f d t o) (turned m f d t places o _ c.check-installation.ensures.answer ∙ c.in-Ok.is) in
+    let accepted = carried (first (installation_checks m f d t places o)) tt _ (λ _. installation_effect m f d t o) (turned m f d t places o _ c.check_installation.ensures.answer ∙ c.in-Ok.is) in
     record {
-      answer = ap Ok (installed_is m f d t places o a.space c.args.strip.now _ _ _ c.charge-counted-lines.ensures.number c.charge-counted-lines.ensures.strip refl) ∙ accepted;
-      strip = c.charge-counted-lines.ensures.strip ∙ ap (strip_after c.args.strip.now) accepted;
+      answer = ap Ok (installed_is m f d t places o a.space c.args.strip.now _ _ _ c.charge_counted-lines.ensures.number c.charge_counted-lines.ensures.strip refl) ∙ accepted;
+      strip = c.charge_counted-lines.ensures.strip ∙ ap (strip_after c.args.strip.now) accepted;
       kept = tt;
     }
 
@@ -51,5 +51,5 @@ returns-in-Err g c =
     let t = tables c.args.roll.now c.args.register.now in
     let places = length c.args.strip.now in
     let o = c.args.object in
-    let refused = still_refused (first (installation_checks m f d t places o)) tt (installation_effect m f d t o) _ (turned m f d t places o _ c.check-installation.ensures.answer ∙ c.in-Err.is) in
+    let refused = still_refused (first (installation_checks m f d t places o)) tt (installation_effect m f d t o) _ (turned m f d t places o _ c.check_installation.ensures.answer ∙ c.in-Err.is) in
     record { answer = refused; strip = ap (strip_after c.args.strip.now) refused; kept = (refl, refl) }

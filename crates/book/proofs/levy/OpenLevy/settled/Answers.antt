@@ -11,7 +11,7 @@ use Rattle.book.proofs.Joining.{room_of}
 use Rattle.book.proofs.Afterwards.{entered_blind}
 use Rattle.book.proofs.Settled.{Settleable, settleable, settled_is, written_is, room_for, few_entered, turned}
 use Rattle.book.proofs.levy.OpenLevy.settled.Goals as goal
-use Rattle.book.proofs.levy.OpenLevy.settled.Goals.{In-Ok, After-increase-of-increase}
+use Rattle.book.proofs.levy.OpenLevy.settled.Goals.{In-Ok, After-increase_of-increase}
 use Rattle.book.proofs.levy.OpenLevy.settled.Given as given
 
 able : (g : given.Over) (c : In-Ok g) → Settleable (g.T.Tariff.meaning c.args.sheet.now) c.args.self.figures c.args.self.launch_date (tables c.args.roll.now c.args.register.now) (length c.args.strip.now) c.args.self.event
@@ -20,13 +20,13 @@ able g c =
     let t = tables c.args.roll.now c.args.register.now in
     let levy = c.args.self in
     settleable m levy.figures levy.launch_date t (length c.args.strip.now) levy.event _ levy.few_operators
-    (turned m levy.figures levy.launch_date t (length c.args.strip.now) levy.event _ c.year-index-index.ensures.value _ c.check-share-out.ensures.answer ∙ c.in-Ok.is)
+    (turned m levy.figures levy.launch_date t (length c.args.strip.now) levy.event _ c.year_index-index.ensures.value _ c.check_share_out.ensures.answer ∙ c.in-Ok.is)
 
 -- the code's increase is what the event adds
-adds : (g : given.Over) (c : After-increase-of-increase g) → addition_in c.increase-of-increase.result ≡ added c.args.self.figures c.args.self.launch_date (tables c.args.roll.now c.args.register.now) c.args.self.event
+adds : (g : given.Over) (c : After-increase_of-increase g) → addition_in c.increase_of-increase.result ≡ added c.args.self.figures c.args.self.launch_date (tables c.args.roll.now c.args.register.now) c.args.self.event
 adds g c =
     let members = counted_members c.args.self.figures (tables c.args.roll.now c.args.register.now) in
-    c.increase-of-increase.ensures.value ∙ ap (λ n. addition n c.args.self.event members) c.year-index-index.ensures.value
+    c.increase_of-increase.ensures.value ∙ ap (λ n. addition n c.args.self.event members) c.year_index-index.ensures.value
 
 pub settle-operators-requires : goal.settle-operators-requires
 settle-operators-requires g c =
@@ -34,7 +34,7 @@ settle-operators-requires g c =
     let levy = c.args.self in
     let t = tables c.args.roll.now c.args.register.now in
     let a = able g (goal.at.settle-operators-requires g c).In-Ok in
-    let is = adds g (goal.at.settle-operators-requires g c).After-increase-of-increase in
+    let is = adds g (goal.at.settle-operators-requires g c).After-increase_of-increase in
     record {
       few = omega (arith, ap (λ x. x.tranches) is, a.few);
       index = omega (arith, ap (λ x. x.index) is, levy.in_time);
@@ -47,16 +47,17 @@ settle-operators-requires g c =
       room = room_for m levy.figures levy.launch_date t (length c.args.strip.now) levy.event _ is a.room;
     }
 
-pub invariant-of-zone : goal.invariant-of-zone
-invariant-of-zone g c =
+pub invariant_of-zone : goal.invariant_of-zone
+invariant_of-zone g c =
     let m = g.T.Tariff.meaning c.args.sheet.now in
     let levy = c.args.self in
     let t = tables c.args.roll.now c.args.register.now in
-    let a = able g (goal.at.invariant-of-zone g c).In-Ok in
-    let is = adds g (goal.at.invariant-of-zone g c).After-increase-of-increase in (
-      few_entered m levy.figures levy.launch_date t (length c.args.strip.now) levy.event _ _ is a.fits.0 c.settle-operators.ensures.number (entered_blind _ (addition_in c.increase-of-increase.result) (counted_roll levy.figures t)),
-      (levy.few_objects, tt),
-    )
+    let a = able g (goal.at.invariant_of-zone g c).In-Ok in
+    let is = adds g (goal.at.invariant_of-zone g c).After-increase_of-increase in
+    record {
+      few_operators = few_entered m levy.figures levy.launch_date t (length c.args.strip.now) levy.event _ _ is a.fits.0 c.settle-operators.ensures.number (entered_blind _ (addition_in c.increase_of-increase.result) (counted_roll levy.figures t));
+      few_objects = levy.few_objects;
+    }
 
 pub returns-in-Ok : goal.returns-in-Ok
 returns-in-Ok g c =
@@ -66,8 +67,8 @@ returns-in-Ok g c =
     let t = tables c.args.roll.now c.args.register.now in
     let places = length c.args.strip.now in
     let v = c.args.self.event in
-    let is = adds g (goal.at.returns-in-Ok g c).After-increase-of-increase in
-    let accepted = carried (first (settling_checks m f d t places v)) tt _ (λ _. settling_effect m f d t v) (turned m f d t places v _ c.year-index-index.ensures.value _ c.check-share-out.ensures.answer ∙ c.in-Ok.is) in
+    let is = adds g (goal.at.returns-in-Ok g c).After-increase_of-increase in
+    let accepted = carried (first (settling_checks m f d t places v)) tt _ (λ _. settling_effect m f d t v) (turned m f d t places v _ c.year_index-index.ensures.value _ c.check_share_out.ensures.answer ∙ c.in-Ok.is) in
     let done = c.settle-operators.ensures in
     record {
       answer = ap Ok (settled_is m f d t places v _ _ _ _ c.args.strip.now _ is done.contributed done.credited done.unshared done.lines done.number done.roll done.strip) ∙ accepted;
@@ -83,5 +84,5 @@ returns-in-Err g c =
     let t = tables c.args.roll.now c.args.register.now in
     let places = length c.args.strip.now in
     let v = c.args.self.event in
-    let refused = still_refused (first (settling_checks m f d t places v)) tt (settling_effect m f d t v) _ (turned m f d t places v _ c.year-index-index.ensures.value _ c.check-share-out.ensures.answer ∙ c.in-Err.is) in
+    let refused = still_refused (first (settling_checks m f d t places v)) tt (settling_effect m f d t v) _ (turned m f d t places v _ c.year_index-index.ensures.value _ c.check_share_out.ensures.answer ∙ c.in-Err.is) in
     record { answer = refused; strip = ap (strip_after c.args.strip.now) refused; kept = (refl, refl) }

@@ -11,7 +11,7 @@ returns-in-Ok c =
     let f = c.args.self.figures in
     let t = tables c.args.roll.now c.args.register.now in
     record {
-      answer = carried (first (launching_checks f t c.args.date)) tt _ (λ _. launching_effect f t c.args.date) (sym (in_turn_is (tables_check f t ∷ []) (date_checks f c.args.date ∷ [])) ∙ sym c.check-launch.ensures.answer ∙ c.in-Ok.is);
+      answer = carried (first (launching_checks f t c.args.date)) tt _ (λ _. launching_effect f t c.args.date) (sym (in_turn_is (tables_check f t ∷ []) (date_checks f c.args.date ∷ [])) ∙ sym c.check_launch.ensures.answer ∙ c.in-Ok.is);
       kept = tt;
     }
 
@@ -20,6 +20,6 @@ returns-in-Err c =
     let f = c.args.self.figures in
     let t = tables c.args.roll.now c.args.register.now in
     record {
-      answer = still_refused (first (launching_checks f t c.args.date)) tt (launching_effect f t c.args.date) _ (sym (in_turn_is (tables_check f t ∷ []) (date_checks f c.args.date ∷ [])) ∙ sym c.check-launch.ensures.answer ∙ c.in-Err.is);
+      answer = still_refused (first (launching_checks f t c.args.date)) tt (launching_effect f t c.args.date) _ (sym (in_turn_is (tables_check f t ∷ []) (date_checks f c.args.date ∷ [])) ∙ sym c.check_launch.ensures.answer ∙ c.in-Err.is);
       kept = refl;
     }

@@ -16,8 +16,8 @@ enter-operators-requires c =
     let f = c.args.self.figures in
     let t = tables c.args.roll.now c.args.register.now in
     let v = c.args.event in
-    let s = subscribable f t v _ c.args.self.few_operators (sym (in_turn_is (tables_check f t ∷ []) (date_checks f v.date ∷ roll_checks f t v ∷ [])) ∙ sym c.check-subscription.ensures.answer ∙ c.in-Ok.is) in
-    let is = c.increase-of-increase.ensures.value in
+    let s = subscribable f t v _ c.args.self.few_operators (sym (in_turn_is (tables_check f t ∷ []) (date_checks f v.date ∷ roll_checks f t v ∷ [])) ∙ sym c.check_subscription.ensures.answer ∙ c.in-Ok.is) in
+    let is = c.increase_of-increase.ensures.value in
     record {
       few = omega (arith, ap (λ a. a.tranches) is, s.few);
       index = omega (arith, ap (λ a. a.index) is);
@@ -26,22 +26,25 @@ enter-operators-requires c =
       room = room_of _ _ (counted_roll f t) _ is s.fits.1;
     }
 
-pub invariant-of-result : goal.invariant-of-result
-invariant-of-result c =
+pub invariant_of-result : goal.invariant_of-result
+invariant_of-result c =
     let f = c.args.self.figures in
     let t = tables c.args.roll.now c.args.register.now in
     let v = c.args.event in
-    let s = subscribable f t v _ c.args.self.few_operators (sym (in_turn_is (tables_check f t ∷ []) (date_checks f v.date ∷ roll_checks f t v ∷ [])) ∙ sym c.check-subscription.ensures.answer ∙ c.in-Ok.is) in
-    let is = c.increase-of-increase.ensures.value in
-    (rw c.enter-operators.ensures.number (room_of _ _ (counted_roll f t) 16 is s.fits.0), (c.args.self.few_objects, tt))
+    let s = subscribable f t v _ c.args.self.few_operators (sym (in_turn_is (tables_check f t ∷ []) (date_checks f v.date ∷ roll_checks f t v ∷ [])) ∙ sym c.check_subscription.ensures.answer ∙ c.in-Ok.is) in
+    let is = c.increase_of-increase.ensures.value in
+    record {
+      few_operators = rw c.enter-operators.ensures.number (room_of _ _ (counted_roll f t) 16 is s.fits.0);
+      few_objects = c.args.self.few_objects;
+    }
 
 pub returns-in-Ok : goal.returns-in-Ok
 returns-in-Ok c =
     let f = c.args.self.figures in
     let t = tables c.args.roll.now c.args.register.now in
     let v = c.args.event in
-    let is = c.increase-of-increase.ensures.value in
-    let accepted = carried (first (subscription_checks f t v)) tt _ (λ _. subscription_effect f t v) (sym (in_turn_is (tables_check f t ∷ []) (date_checks f v.date ∷ roll_checks f t v ∷ [])) ∙ sym c.check-subscription.ensures.answer ∙ c.in-Ok.is) in
+    let is = c.increase_of-increase.ensures.value in
+    let accepted = carried (first (subscription_checks f t v)) tt _ (λ _. subscription_effect f t v) (sym (in_turn_is (tables_check f t ∷ []) (date_checks f v.date ∷ roll_checks f t v ∷ [])) ∙ sym c.check_subscription.ensures.answer ∙ c.in-Ok.is) in
     record {
       answer = ap Ok (subscription_done f t v _ _ _ is c.enter-operators.ensures.number c.enter-operators.ensures.roll) ∙ accepted;
       kept = tt;
@@ -53,6 +56,6 @@ returns-in-Err c =
     let t = tables c.args.roll.now c.args.register.now in
     let v = c.args.event in
     record {
-      answer = still_refused (first (subscription_checks f t v)) tt (subscription_effect f t v) _ (sym (in_turn_is (tables_check f t ∷ []) (date_checks f v.date ∷ roll_checks f t v ∷ [])) ∙ sym c.check-subscription.ensures.answer ∙ c.in-Err.is);
+      answer = still_refused (first (subscription_checks f t v)) tt (subscription_effect f t v) _ (sym (in_turn_is (tables_check f t ∷ []) (date_checks f v.date ∷ roll_checks f t v ∷ [])) ∙ sym c.check_subscription.ensures.answer ∙ c.in-Err.is);
       kept = (refl, refl);
     }
