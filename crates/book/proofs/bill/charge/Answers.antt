@@ -10,18 +10,18 @@ use Rattle.book.proofs.bill.charge.Goals.{After-rate_of}
 abbrev blank : RollEntry
 blank = record { operator = 0; tranches = []; balance = 0 }
 
-unit-in : (g : given.Over) (c : After-rate_of g) → c.price_at-price.result * c.rate_of.result ≤ 10000000000
-unit-in g c =
+unit_in : (g : given.Over) (c : After-rate_of g) → c.price_at-price.result * c.rate_of.result ≤ 10000000000
+unit_in g c =
     let r = (sound_at c.args.roll.now c.requires.sound c.loop-member.member-index blank c.loop-member-test.true).rate in
     price_fits c.price_at-price.result c.rate_of.result c.price_at-price.ensures.most (omega (arith, r, c.rate_of.ensures.value))
 
 pub overflow_mul-unit : goal.overflow_mul-unit
-overflow_mul-unit g c = omega (arith, unit-in g (goal.at.overflow_mul-unit g c).After-rate_of)
+overflow_mul-unit g c = omega (arith, unit_in g (goal.at.overflow_mul-unit g c).After-rate_of)
 
 pub line_of-requires : goal.line_of-requires
 line_of-requires g c =
     let s = (sized_of c.args.object.now c.requires.object).0 in
-    let f = line_fits (c.price_at-price.result * c.rate_of.result) c.args.object.now.dwellings 10000000000 (unit-in g (goal.at.line_of-requires g c).After-rate_of) s in
+    let f = line_fits (c.price_at-price.result * c.rate_of.result) c.args.object.now.dwellings 10000000000 (unit_in g (goal.at.line_of-requires g c).After-rate_of) s in
     record { most = omega (arith, f) }
 
 pub bounds-strip-next : goal.bounds-strip-next

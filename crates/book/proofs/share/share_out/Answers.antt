@@ -38,8 +38,8 @@ weight_to-weight-requires g c = record {
 }
 
 -- a share is due, of at most the amount, and its line has a place
-product-in : (g : given.Over) (c : Then-is_due g) → c.contribution_of-amount.result * c.weight_to-weight.result ≤ 400000000000000000
-product-in g c = mul-le-mul c.contribution_of-amount.ensures.most c.weight_to-weight.ensures.most
+product_in : (g : given.Over) (c : Then-is_due g) → c.contribution_of-amount.result * c.weight_to-weight.result ≤ 400000000000000000
+product_in g c = mul-le-mul c.contribution_of-amount.ensures.most c.weight_to-weight.ensures.most
 
 part_in : (g : given.Over) (c : Then-is_due g) →
     (g.T.Tariff.meaning c.args.sheet.now).rounded (c.contribution_of-amount.result * c.weight_to-weight.result) c.whole_weight-whole.result ≤ 100000000000000
