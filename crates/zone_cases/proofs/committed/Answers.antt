@@ -9,5 +9,5 @@ unreachable-requires g c =
     let m = g.T.Tariff.meaning c.args.sheet.now in
     let t = tables c.args.roll.now c.args.register.now in
     never_refused m c.args.zone c.in-Ok.billed.zone t _ _ (commitment_event c.args.date c.args.operator c.args.rate) _ _
-    c.share-outs-follow.ensures.refusal c.share-outs-follow.ensures.lines
-    c.in-Ok.ensures.answer c.in-Err-share-out.ensures.answer (omega arith)
+    c.share_outs_follow.ensures.refusal c.share_outs_follow.ensures.lines
+    c.in-Ok.ensures.answer c.in-Err-share_out.ensures.answer (omega arith)

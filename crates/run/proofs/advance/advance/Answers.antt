@@ -23,17 +23,17 @@ returns-in-Err g c =
     let p = c.args.reader.now.position in
     let e = shown_event c.in-Event.event in
     let read = ap (λ x. shown_step (Ok x)) (c.in-Entry.is ∙ ap (step.Entry c.in-Entry.block c.in-Entry.entry) c.in-Event.is) in
-    let here = sym read ∙ c.in-ok-block.ensures.answer in
+    let here = sym read ∙ c.in_ok-block.ensures.answer in
     let stands = subst LabelStanding (sym here) (standing bs p) in
     let label = c.label.ensures.value in
     let prints : each printable c.label.result.now ≡ true = ap (each printable) label ∙ (and_parts (eqb (length (label_of e)) 16) (each printable (label_of e)) stands).1 in
     record {
       notices =
-          refused_notice m s c.in-Entry.block c.in-Entry.entry e c.in-Err.refusal c.label-text.result.now c.in-Err.ensures.answer
-          (c.label-text.ensures.value prints ∙ ap without_end_blanks label)
+          refused_notice m s c.in-Entry.block c.in-Entry.entry e c.in-Err.refusal c.label_text.result.now c.in-Err.ensures.answer
+          (c.label_text.ensures.value prints ∙ ap without_end_blanks label)
           ∙ ap (λ o. notices m s (tells_at o)) here;
       after = c.take.ensures.after ∙ ap (λ o. lived m s (steps_told (tells_at o))) here;
-      position = c.next-entry.ensures.position;
-      kept = c.next-entry.ensures.kept;
-      goes = subst (λ (o : Result Outcome Fault). Forward p c.next-entry.new.self.position (places bs) o) read c.in-ok-block.ensures.forward;
+      position = c.next_entry.ensures.position;
+      kept = c.next_entry.ensures.kept;
+      goes = subst (λ (o : Result Outcome Fault). Forward p c.next_entry.new.self.position (places bs) o) read c.in_ok-block.ensures.forward;
     }

@@ -7,15 +7,15 @@ use Rattle.book.specs.Promises.{launched_on}
 use Rattle.run.proofs.Leading.{turned}
 use Rattle.run.proofs.installed.opened.Goals as goal
 
-pub returns-in-err-after : goal.returns-in-err-after
-returns-in-err-after g c =
+pub returns-in_err-after : goal.returns-in_err-after
+returns-in_err-after g c =
     let m = g.T.Tariff.meaning c.args.sheet.now in
     let t = tables c.args.roll.now c.args.register.now in
     let zone = c.args.zone in
     let takes = ap (λ n. Some (installation m zone.figures zone.launch_date t n (opened c.args.date c.args.object c.args.dwellings))) (sym c.requires) in
-    let kept = c.in-err-after.ensures.kept in
-    let p = err_from_is_err_and c.from-residual.result c.from-residual.ensures.1 in
+    let kept = c.in_err-after.ensures.kept in
+    let p = err_from_is_err_and c.from_residual.result c.from_residual.ensures.1 in
     record {
-      answer = rw (p.1, p.2) (turned m (launched_on zone t) (opening c.args.date c.args.object c.args.dwellings) _ _ _ takes c.in-err-after.ensures.answer refl
+      answer = rw (p.1, p.2) (turned m (launched_on zone t) (opening c.args.date c.args.object c.args.dwellings) _ _ _ takes c.in_err-after.ensures.answer refl
           (λ i. launched_on (kept.0 i) (tables c.args.roll.now (kept.1 i))));
     }

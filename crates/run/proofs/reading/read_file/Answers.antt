@@ -17,7 +17,7 @@ returns-in-Err g c =
     let from = c.from.ensures in
     record {
       notices =
-          ap (each shown_notice) c.push-reserved.ensures.items
+          ap (each shown_notice) c.push_reserved.ensures.items
           ∙ each_append shown_notice items (c.from.result ∷ [])
           ∙ (λ i. each shown_notice items ++ record { fault = from.0 i; label = from.1 i } ∷ [])
           ∙ ap (λ l. each shown_notice items ++ l) told.0;

@@ -45,8 +45,8 @@ returns-then-not-more g c =
     c.loop-more.invariant.1 (goes_as _ _ _ c.in-Ok.more false c.if-not-more.true done.goes) done.after in
     record { notices = all.0; after = all.1 }
 
-pub push-reserved-requires : goal.push-reserved-requires
-push-reserved-requires g c =
+pub push_reserved-requires : goal.push_reserved-requires
+push_reserved-requires g c =
     omega (arith, c.loop-more.invariant.1.enough, c.in-Err.ensures.goes.0, c.in-Err.ensures.goes.1, ap (λ r. places r.now) c.loop-more.invariant.0)
 
 pub loop-more-smaller : goal.loop-more-smaller
@@ -60,10 +60,10 @@ loop-more-preserved g c =
     let before = each shown_notice (vec_items c.args.notices.now) in
     let seen = each shown_notice (vec_items c.loop-more.notices) in
     let done = c.in-Err.ensures in
-    let pushed = c.push-reserved.ensures in
+    let pushed = c.push_reserved.ensures in
     let adds = ap (each shown_notice) pushed.items ∙ each_append shown_notice (vec_items c.loop-more.notices) (c.in-Err.notice ∷ []) in
     let so = gone_on m c.args.reader.now.bytes.now first before c.loop-more.reader.bytes.now (ap (λ r. r.now) c.loop-more.invariant.0) _ _ _ (vec_len c.loop-more.notices + 1) _ _ _ seen
-    (each shown_notice (vec_items c.push-reserved.new.self))
+    (each shown_notice (vec_items c.push_reserved.new.self))
     c.loop-more.invariant.1 done.goes.0 done.goes.1 (omega arith) done.position done.after
     (adds ∙ ap (λ l. seen ++ l) done.notices) in (
       done.kept ∙ c.loop-more.invariant.0,

@@ -15,10 +15,10 @@ use Rattle.run.proofs.run.run.Given as given
 use Rattle.run.proofs.run.run.Goals as goal
 use Rattle.run.proofs.run.run.Goals.{After-figures-figures}
 
-pub returns-in-err-notices : goal.returns-in-err-notices
-returns-in-err-notices g c =
-    let none = c.from-residual.ensures.0 in
-    let p = err_from_is_err_and c.from-residual.result c.from-residual.ensures.1 in
+pub returns-in_err-notices : goal.returns-in_err-notices
+returns-in_err-notices g c =
+    let none = c.from_residual.ensures.0 in
+    let p = err_from_is_err_and c.from_residual.result c.from_residual.ensures.1 in
     record {
       notices = IfOk-from_err _ _ none;
       figures = IfOk-from_err _ _ none;
@@ -31,17 +31,17 @@ returns-in-err-notices g c =
 
 -- the zone and its tables end where the file leads
 ends : (g : given.Over) (c : After-figures-figures g) →
-    state_in c.read-file.new.zone (tables c.read-file.new.roll c.read-file.new.register) ≡
+    state_in c.read_file.new.zone (tables c.read_file.new.roll c.read_file.new.register) ≡
     ending (g.T.Tariff.meaning c.args.sheet.now) (tables c.args.roll.now c.args.register.now) c.args.bytes.now
 ends g c =
-    c.read-file.ensures.after
+    c.read_file.ensures.after
     ∙ ap (λ s. lived (g.T.Tariff.meaning c.args.sheet.now) s (file_steps c.args.bytes.now)) (empty_begin c.new.result _ c.new.ensures.value)
 
-pub overflow-add-totals : goal.overflow-add-totals
-overflow-add-totals g c =
+pub overflow_add-totals : goal.overflow_add-totals
+overflow_add-totals g c =
     let m = g.T.Tariff.meaning c.args.sheet.now in
     let t = tables c.args.roll.now c.args.register.now in
-    let figures = c.figures-figures.ensures.value (tables c.read-file.new.roll c.read-file.new.register) ∙ ap (λ (s : State). s.figures) (ends g (goal.at.overflow-add-totals g c).After-figures-figures) in
+    let figures = c.figures-figures.ensures.value (tables c.read_file.new.roll c.read_file.new.register) ∙ ap (λ (s : State). s.figures) (ends g (goal.at.overflow_add-totals g c).After-figures-figures) in
     let credited = ap (λ f. f.totals.credited) figures in
     let unshared = ap (λ f. f.totals.unshared) figures in
     omega (arith, credited, unshared, paid_fits m (g.T.Tariff.lawful c.args.sheet.now) t c.args.bytes.now)
@@ -50,23 +50,23 @@ pub returns : goal.returns
 returns g c =
     let m = g.T.Tariff.meaning c.args.sheet.now in
     let t = tables c.args.roll.now c.args.register.now in
-    let after = tables c.read-file.new.roll c.read-file.new.register in
+    let after = tables c.read_file.new.roll c.read_file.new.register in
     let end = ends g (goal.at.returns g c).After-figures-figures in
     let figures = c.figures-figures.ensures.value after ∙ ap (λ (s : State). s.figures) end in
     let paid = ap (λ f. f.totals.credited + f.totals.unshared) figures in
-    let made = c.in-ok-notices.ensures in
+    let made = c.in_ok-notices.ensures in
     record {
       notices =
-          c.read-file.ensures.notices
+          c.read_file.ensures.notices
           ∙ ap (λ l. each shown_notice l ++ notices m (state_in (Prepared c.new.result) t) (file_tells c.args.bytes.now)) made.items
           ∙ ap (λ s. notices m s (file_tells c.args.bytes.now)) (empty_begin c.new.result t c.new.ensures.value);
       figures = figures;
-      tables = sym (tables_in c.read-file.new.zone after) ∙ ap (λ (s : State). s.tables) end;
+      tables = sym (tables_in c.read_file.new.zone after) ∙ ap (λ (s : State). s.tables) end;
       held = (
         c.difference-held.ensures.negative ∙ ap (below_zero c.figures-figures.result.totals.contributed) paid,
         c.difference-held.ensures.value ∙ ap (apart c.figures-figures.result.totals.contributed) paid,
       );
-      closed = closed c.read-file.new.zone after _ end;
+      closed = closed c.read_file.new.zone after _ end;
       kept = tt;
       life = runs_as_life m (g.T.Tariff.lawful c.args.sheet.now) t c.args.bytes.now;
     }
