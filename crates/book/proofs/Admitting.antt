@@ -1,10 +1,10 @@
 -- What the tables' check tells of the entries that a call counts.
-use Rattle.std.proofs.Common.{◌≡◌, ℕ, ◌≤◌, Bool, true, false, cond, eqb, ltb, leb, List, [], ◌∷◌, length, take, refl, arith}
+use Rattle.std.proofs.Common.{◌≡◌, ℕ, ◌≤◌, Bool, true, false, cond, List, [], ◌∷◌, length, refl, arith}
 use Rattle.std.proofs.lemmas.Bool.{ltb-false}
-use Rattle.book.specs.Lists.{any, one_of, repeats}
+use Rattle.book.specs.Lists.{any, one_of}
 use Rattle.book.specs.Members.{rate_of}
 use Rattle.book.specs.Zone.{Tables, counted_roll, counted_register}
-use Rattle.book.specs.Refusals.{entry_faults, object_faults, figure_faults, table_faults, bad_rate}
+use Rattle.book.specs.Refusals.{entry_faults, object_faults, table_faults, bad_rate}
 use Rattle.book.specs.declared.entries.RollEntry.{RollEntry}
 use Rattle.book.specs.declared.zone.Figures.{Figures}
 use Rattle.book.proofs.Passing.{all_fail}

@@ -1,8 +1,8 @@
 -- What passed checks tell of an event that is billed, and what billing it leads to.
-use Rattle.std.proofs.Common.{◌≡◌, ℕ, ◌+◌, ◌≤◌, Bool, true, false, cond, T, ltb, List, [], ◌∷◌, ◌++◌, length, take, Ok, Err, Result, sym, refl, ap, ◌∙◌, subst, arith}
+use Rattle.std.proofs.Common.{◌≡◌, ℕ, ◌+◌, ◌≤◌, Bool, true, false, cond, T, ltb, List, [], ◌∷◌, ◌++◌, length, take, Ok, Result, sym, refl, ap, ◌∙◌, subst}
 use Rattle.std.proofs.lemmas.List.{length-append, take_at}
 use Rattle.std.proofs.lemmas.Bool.{ltb-false}
-use Rattle.refusal.specs.Checks.{Check, ◌⇒◌, first, unless, passing, in_turn}
+use Rattle.refusal.specs.Checks.{Check, ◌⇒◌, passing, in_turn}
 use Rattle.refusal.specs.declared.Refusal.{Refusal}
 use Rattle.refusal.specs.declared.Refusal.TheVariants.{StripTooShort}
 use Rattle.refusal.proofs.First.{in_turn_is}
@@ -10,9 +10,9 @@ use Rattle.calendar.specs.Days.{is_date, index_of}
 use Rattle.tariff.specs.Meaning.{Meaning}
 use Rattle.book.specs.Lists.{written}
 use Rattle.book.specs.Lines.{line}
-use Rattle.book.specs.Members.{Addition, addition}
+use Rattle.book.specs.Members.{Addition}
 use Rattle.book.specs.Billing.{earlier, unit_price, unit_contribution, billed, bill}
-use Rattle.book.specs.Zone.{Tables, counted_register, counted_members, levied, Effect, dated}
+use Rattle.book.specs.Zone.{Tables, counted_register, levied, Effect, dated}
 use Rattle.book.specs.Refusals.{tables_check, date_checks, index_check, roll_checks, price_check, coefficient_check}
 use Rattle.book.specs.Answers.{added, billing_lines, billing_checks, billing_effect}
 use Rattle.book.specs.Increases.{lines_of, lines_billed}
@@ -21,7 +21,7 @@ use Rattle.book.specs.declared.lines.Line.{Line}
 use Rattle.book.specs.declared.lines.Nature.TheVariants.{Charge, Contribution}
 use Rattle.book.specs.declared.zone.Figures.{Figures}
 use Rattle.book.specs.declared.zone.Event.{Event}
-use Rattle.book.proofs.Passing.{Clear, clear_left, clear_right, accepted_is, real_of}
+use Rattle.book.proofs.Passing.{clear_left, clear_right, accepted_is, real_of}
 use Rattle.book.proofs.Admitting.{Admitted, admitted}
 use Rattle.book.proofs.Joining.{few_tranches}
 

@@ -1,7 +1,7 @@
 -- How many lines a share-out writes, as its code counts them.
 use Rattle.std.proofs.Common.{◌≡◌, ℕ, Bool, true, false, cond, List, [], ◌∷◌, length, sym, refl, ap, ◌∙◌}
 use Rattle.tariff.specs.Meaning.{Meaning}
-use Rattle.book.specs.Lists.{joined, total}
+use Rattle.book.specs.Lists.{joined}
 use Rattle.book.specs.Members.{Member, Addition, weight_to, whole_weight}
 use Rattle.book.specs.Sharing.{object_contribution, serves, due, credit, credits}
 use Rattle.book.specs.Increases.{amount_lines, lines_shared}

@@ -3,7 +3,7 @@ use Rattle.std.proofs.Common.{◌≡◌, ℕ, ◌*◌, ◌≤◌, List, length, 
 use Rattle.refusal.specs.declared.Refusal.{Refusal}
 use Rattle.tariff.specs.Meaning.{Meaning}
 use Rattle.book.specs.Zone.{Tables, Phase, preparing, launched, levied, Effect, Answer, counted_register, counted_members}
-use Rattle.book.specs.Answers.{added, billing, billing_checks, billing_effect, settling, settling_effect}
+use Rattle.book.specs.Answers.{added, billing, billing_checks, billing_effect, settling}
 use Rattle.book.specs.Promises.{levied_on}
 use Rattle.book.specs.declared.lines.Line.{Line}
 use Rattle.book.specs.declared.zone.Event.{Event}

@@ -1,23 +1,22 @@
 -- What passed checks tell of an object that is entered, and what entering it leads to.
-use Rattle.std.proofs.Common.{◌≡◌, ℕ, ◌+◌, ◌<◌, ◌≤◌, Bool, true, false, cond, not, ◌||◌, eqb, ltb, leb, List, [], ◌∷◌, ◌++◌, length, take, set, Some, None, Ok, Err, Option, Result, sym, refl, ap, ◌∙◌, arith}
+use Rattle.std.proofs.Common.{◌≡◌, ℕ, ◌+◌, ◌<◌, ◌≤◌, Bool, true, false, cond, eqb, ltb, leb, List, [], ◌∷◌, ◌++◌, length, take, set, Some, Ok, Result, sym, refl, ap, ◌∙◌, arith}
 use Rattle.std.proofs.lemmas.List.{length-take-le, length-append, take_at}
 use Rattle.std.proofs.lemmas.Bool.{or_parts, leb-false, ltb-false}
 use Rattle.refusal.specs.Checks.{Check, ◌⇒◌, first, unless, passing, in_turn}
 use Rattle.refusal.specs.declared.Refusal.{Refusal}
 use Rattle.refusal.proofs.First.{in_turn_is}
 use Rattle.refusal.specs.declared.Refusal.TheVariants.{StripTooShort}
-use Rattle.calendar.specs.Days.{is_date}
 use Rattle.tariff.specs.Meaning.{Meaning}
 use Rattle.book.specs.Lists.{any, one_of, written}
 use Rattle.book.specs.Members.{member_of}
 use Rattle.book.specs.Billing.{charged}
 use Rattle.book.specs.Zone.{Tables, counted_roll, counted_register, counted_members, launched, Effect, dated, counting_objects}
-use Rattle.book.specs.Refusals.{bad_dwellings, object_faults, tables_check, date_checks, index_check, register_checks, price_check}
+use Rattle.book.specs.Refusals.{object_faults, tables_check, date_checks, index_check, register_checks, price_check}
 use Rattle.book.specs.Answers.{installation_checks, installation_effect, installed_register}
 use Rattle.book.specs.declared.entries.RegisterEntry.{RegisterEntry}
 use Rattle.book.specs.declared.lines.Line.{Line}
 use Rattle.book.specs.declared.zone.Figures.{Figures}
-use Rattle.book.proofs.Passing.{Clear, clear_left, clear_right, accepted_is}
+use Rattle.book.proofs.Passing.{clear_left, clear_right, accepted_is}
 use Rattle.book.proofs.Totals.{length_each}
 use Rattle.book.proofs.Admitting.{Admitted, admitted}
 use Rattle.book.proofs.Subscribing.{last_written}

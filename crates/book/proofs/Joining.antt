@@ -1,13 +1,12 @@
 -- Tranches that pass the checks of the roll find a place on it.
-use Rattle.std.proofs.Common.{◌≡◌, ℕ, ◌+◌, ◌-◌, ◌<◌, ◌≤◌, Bool, true, false, cond, not, ◌||◌, eqb, ltb, leb, List, [], ◌∷◌, ◌++◌, length, take, Ok, sym, refl, ap, ◌∙◌, subst, arith}
+use Rattle.std.proofs.Common.{◌≡◌, ℕ, ◌≤◌, leb, List, [], length, Ok, sym, ap, ◌∙◌, subst, arith}
 use Rattle.std.proofs.lemmas.List.{length-take-le}
-use Rattle.std.proofs.lemmas.Bool.{or_parts, leb-false, not-false}
+use Rattle.std.proofs.lemmas.Bool.{or_parts, leb-false}
 use Rattle.refusal.specs.Checks.{passing}
-use Rattle.calendar.specs.Days.{within}
-use Rattle.book.specs.Lists.{is_none, written}
-use Rattle.book.specs.Members.{Member, Addition, addition, member, member_of, members_of, entered_roll, entered_members}
+use Rattle.book.specs.Lists.{written}
+use Rattle.book.specs.Members.{Addition, addition, member_of, entered_roll, entered_members}
 use Rattle.book.specs.Zone.{Tables, counted_roll, counted_members, preparing, Effect, dated, counting_operators}
-use Rattle.book.specs.Refusals.{roll_full, change_checks, roll_checks, bad_rate, date_checks}
+use Rattle.book.specs.Refusals.{change_checks, roll_checks, date_checks}
 use Rattle.book.specs.Answers.{subscription_checks, subscription_effect}
 use Rattle.book.specs.declared.entries.RollEntry.{RollEntry}
 use Rattle.book.specs.declared.zone.Figures.{Figures}

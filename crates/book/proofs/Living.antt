@@ -1,9 +1,9 @@
 -- A life goes on by a call whose result is its answer.
-use Rattle.std.proofs.Common.{◌≡◌, ℕ, List, Some, Ok, Err, sym, ap, ◌∙◌}
+use Rattle.std.proofs.Common.{◌≡◌, ℕ, Some, Ok, Err, sym, ap, ◌∙◌}
 use Rattle.tariff.specs.Meaning.{Meaning, Lawful}
 use Rattle.book.specs.Zone.{State, Answer, launched}
 use Rattle.book.specs.Calls.{Call, raise}
-use Rattle.book.specs.Life.{answer_to, Life, goes_on}
+use Rattle.book.specs.Life.{answer_to, goes_on}
 use Rattle.book.specs.Promises.{LivesOn, CutsFairly}
 use Rattle.book.proofs.Accounts.{every_life_accounted}
 use Rattle.book.proofs.Chain.{every_cut_fair}

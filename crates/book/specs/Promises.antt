@@ -4,7 +4,7 @@
 --   LivesOn                            a life goes on by a call, and its accounts hold
 --   CutsFairly                         an accepted raise and its parts, however it is cut, show units that differ by little
 use Rattle.std.specs.Prelude.{ℕ, List, [], ◌∷◌, length, take, Ok, Err, Result}
-use Rattle.tariff.specs.Meaning.{Meaning, Lawful}
+use Rattle.tariff.specs.Meaning.{Meaning}
 use Rattle.book.specs.Zone.{Tables, preparing, launched, levied, State, Answer, state_after}
 use Rattle.book.specs.Calls.{Call}
 use Rattle.book.specs.Tally.{Made}

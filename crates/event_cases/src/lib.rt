@@ -8,7 +8,6 @@ mod tests {
     use event_file::fault::Fault;
     use event_file::reader::{Reader, Step};
     use std::process::Abort;
-    use std::test::Fail;
 
     // What the reading of a file comes to: its events and blanks, its refusals, and the last of these with its place.
     #[derive(Clone, Copy, PartialEq, Eq, Debug)]
@@ -168,7 +167,7 @@ L\x01\x33\xc6\x3f\x00\x00\x00\x00\x00\x00\x00\x00\x00three           ";
     }
 
     // A change of any one byte is found by the check.
-    fn changed_bytes(rt: &impl Abort) -> Result<(), Fail> {
+    fn changed_bytes(rt: &impl Abort) {
         let mut block = sample(0, b'E', 64, 212);
         assert!(rt; check_block(&block).is_ok());
         for offset in 0..512 {
@@ -180,7 +179,6 @@ L\x01\x33\xc6\x3f\x00\x00\x00\x00\x00\x00\x00\x00\x00three           ";
             block[offset] = byte;
         }
         assert!(rt; check_block(&block).is_ok());
-        Ok(())
     }
 
     // Sample blocks, one after another.
@@ -229,10 +227,9 @@ L\x01\x33\xc6\x3f\x00\x00\x00\x00\x00\x00\x00\x00\x00three           ";
     }
 
     #[test]
-    fn files_read_as_the_tables_say(rt: HostRuntime) -> Result<(), Fail> {
+    fn files_read_as_the_tables_say(rt: HostRuntime) {
         damaged_entries(&rt);
-        changed_bytes(&rt)?;
+        changed_bytes(&rt);
         long_files(&rt);
-        Ok(())
     }
 }

@@ -1,7 +1,7 @@
 -- A block in which one byte is changed fails its check.
-use Rattle.std.proofs.Common.{◌≡◌, ℕ, zero, suc, ◌+◌, ◌*◌, ◌/◌, ◌%◌, ◌<◌, ◌≤◌, Bool, true, false, eqb, ◌≢◌, List, [], ◌∷◌, length, get_or, take, set, fold, sym, refl, ap, ◌∙◌, subst, inl, inr, ⊎_elim, arith}
+use Rattle.std.proofs.Common.{◌≡◌, ℕ, zero, suc, ◌+◌, ◌*◌, ◌/◌, ◌%◌, ◌<◌, ◌≤◌, true, eqb, List, [], ◌∷◌, length, get_or, take, set, fold, sym, ap, ◌∙◌, ⊎_elim, arith}
 use native.Mathlib.Nat.{add-mul-mod_self_left, mod-add-div}
-use Rattle.std.proofs.lemmas.List.{get_or-set_other, get_or-set_same, length-set, take-set-le}
+use Rattle.std.proofs.lemmas.List.{get_or-set_other, get_or-set_same, take-set-le}
 use Rattle.std.proofs.lemmas.Bool.{and_parts, cases_Bool, cases_eq, cases_lt, eqb-true}
 use Rattle.event_file.specs.Blocks.{check_of, passes, written_check}
 use Rattle.event_file.specs.Laws.{ChangeIsFound}

@@ -4,7 +4,7 @@ use Rattle.std.specs.List.{between}
 use Rattle.std.proofs.lemmas.List.{take_rest}
 use Rattle.refusal.specs.declared.Refusal.TheVariants.{BlankRuleBroken, BadEntryContent}
 use Rattle.refusal.specs.Checks.{first, ◌⇒◌}
-use Rattle.event_file.specs.Entries.{FieldsOf, bad_content, bad_fields, event_refusal, form_in, label_in, letter_in, number_at}
+use Rattle.event_file.specs.Entries.{FieldsOf, bad_content, bad_fields, event_refusal, label_in}
 use Rattle.event_file.specs.declared.entry.Fields.{Fields}
 
 -- the bytes from the fifteenth to the last are what follows the first fourteen

@@ -1,5 +1,5 @@
 -- The three conditions of an entry in their order, and what their answer says of each.
-use Rattle.std.proofs.Common.{◌≡◌, ℕ, Bool, true, false, List, [], ◌∷◌, Ok, Err, Result, refl, ap, ◌∙◌, arith}
+use Rattle.std.proofs.Common.{◌≡◌, ℕ, Bool, true, false, [], ◌∷◌, Ok, Result, refl, ap, ◌∙◌, arith}
 use Rattle.refusal.specs.declared.Refusal.{Refusal}
 use Rattle.refusal.specs.declared.Refusal.TheVariants.{UnknownLetter, BlankRuleBroken, BadEntryContent}
 use Rattle.refusal.specs.Checks.{first, unless, ◌⇒◌}

@@ -1,5 +1,5 @@
 -- Remainders modulo 65,521 of numbers to base 256.
-use Rattle.std.proofs.Common.{◌≡◌, ℕ, ◌+◌, ◌*◌, ◌/◌, ◌%◌, ◌<◌, List, [], ◌∷◌, length, get_or, take, sym, ap, ◌∙◌, arith}
+use Rattle.std.proofs.Common.{◌≡◌, ℕ, ◌+◌, ◌*◌, ◌/◌, ◌%◌, ◌<◌, List, length, get_or, take, sym, ap, ◌∙◌, arith}
 use native.Mathlib.Nat.{add-mul-mod_self_left}
 use Rattle.std.proofs.lemmas.List.Sums.{fold_more}
 use Rattle.event_file.specs.Blocks.{check_of}

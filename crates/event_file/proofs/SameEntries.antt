@@ -1,12 +1,12 @@
 -- Two blocks that pass all checks and give the same entries are the same bytes.
-use Rattle.std.proofs.Common.{◌≡◌, ℕ, zero, suc, ◌+◌, ◌*◌, ◌/◌, ◌%◌, ◌<◌, ◌≤◌, Bool, true, false, cond, not, ◌&&◌, ◌||◌, eqb, List, [], ◌∷◌, length, get_or, take, drop, replicate, is_ok, Ok, Err, Result, sym, refl, ap, ◌∙◌, subst, inl, inr, ⊎_elim, arith}
+use Rattle.std.proofs.Common.{◌≡◌, ℕ, ◌+◌, ◌*◌, ◌/◌, ◌%◌, ◌<◌, Bool, true, false, cond, not, ◌&&◌, ◌||◌, eqb, List, [], ◌∷◌, length, get_or, take, drop, replicate, is_ok, Ok, Err, Result, sym, refl, ap, ◌∙◌, ⊎_elim, arith}
 use Rattle.refusal.specs.declared.Refusal.{Refusal}
 use Rattle.std.proofs.ByRecursion.{All-drop, All-take}
 use Rattle.std.proofs.lemmas.List.{ext_get_or, get_or-drop, get_or-take, length-take-le}
 use Rattle.std.proofs.lemmas.Bool.{and_parts, cases_eq, cases_lt, eqb-true, not-false}
 use Rattle.event_file.specs.Bytes.{Bytes, each}
-use Rattle.event_file.specs.Blocks.{check_of, entry_of, passes, written_check}
-use Rattle.event_file.specs.Format.{Shown, entry_bytes}
+use Rattle.event_file.specs.Blocks.{check_of, entry_of, written_check}
+use Rattle.event_file.specs.Format.{Shown}
 use Rattle.event_file.specs.Entries.{Told, event, blank, bad_content, breaks_blank_rule, event_in, event_letter, is_blank, is_zero, letter_in, told, unknown_letter}
 use Rattle.event_file.specs.Reading.{blank_before, entry_told}
 use Rattle.event_file.specs.Laws.{SameEntries, Sound}

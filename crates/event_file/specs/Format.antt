@@ -4,7 +4,7 @@
 --   entry_bytes   the bytes of an event
 --   Writes        bytes that write an event: reading an event is this relation, from the bytes to the event
 --   label_stands  whether bytes can be a label: sixteen, each from 32 to 126
-use Rattle.std.specs.Prelude.{◌≡◌, ℕ, ◌/◌, ◌%◌, ◌^◌, ◌<◌, Bool, true, false, cond, ◌&&◌, List, [], ◌∷◌, ◌++◌, length, ◌==◌, nat_le}
+use Rattle.std.specs.Prelude.{◌≡◌, ℕ, ◌/◌, ◌%◌, ◌^◌, ◌<◌, Bool, true, cond, ◌&&◌, List, [], ◌∷◌, ◌++◌, length, ◌==◌, nat_le}
 use Rattle.event_file.specs.Bytes.{each}
 
 pub data Shown : Type 0 where

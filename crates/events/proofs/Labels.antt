@@ -1,5 +1,5 @@
 -- A label that stands is text.
-use Rattle.std.proofs.Common.{◌≡◌, ℕ, zero, suc, true, ◌&&◌, eqb, leb, List, [], ◌∷◌, length, IsUtf8, IsAscii, arith}
+use Rattle.std.proofs.Common.{◌≡◌, ℕ, zero, suc, true, eqb, leb, List, [], ◌∷◌, length, IsUtf8, IsAscii, arith}
 use Rattle.std.proofs.lemmas.Str.{IsUtf8-from_ascii}
 use Rattle.std.proofs.lemmas.Bool.{and_parts, leb-true}
 use Rattle.event_file.specs.Bytes.{each}

@@ -1,5 +1,5 @@
 -- An order that no check refuses has a coefficient within the tariff's limits, and a place inside the tables.
-use Rattle.std.proofs.Common.{◌≡◌, ℕ, ◌-◌, ◌<◌, ◌≤◌, Bool, true, false, cond, T, ltb, leb, Some, None, Option, unwrap_or, sym, refl, subst, arith}
+use Rattle.std.proofs.Common.{◌≡◌, ℕ, ◌-◌, ◌<◌, Bool, true, T, ltb, leb, Some, None, Option, unwrap_or, sym, subst, arith}
 use Rattle.std.specs.Option.{option_map}
 use Rattle.std.proofs.lemmas.Bool.{cond_both, and_parts, leb-true}
 use Rattle.std.proofs.lemmas.Bool.Decides.{nat_tests}
@@ -9,7 +9,6 @@ use Rattle.tariff.specs.declared.kinds.Coefficient.{Coefficient}
 use Rattle.links.specs.Tables.{row_of}
 use Rattle.links.specs.Quotations.{real_if_known, dates_real, basis_on, basis_of, BasisLimits}
 use Rattle.links.specs.declared.order.Order.{Order}
-use Rattle.links.specs.declared.order.Basis.{Basis}
 use Rattle.links.specs.declared.order.Basis.TheVariants.{AbInitio, ExPost}
 
 holds : (b : Bool) → b ≡ true → T b

@@ -1,5 +1,5 @@
 -- The checks of an order made one after the other give the first refusal of them all.
-use Rattle.std.proofs.Common.{◌≡◌, ℕ, ◌-◌, Bool, true, false, List, [], ◌∷◌, Ok, Err, unwrap_or, sym, ap, ◌∙◌, subst}
+use Rattle.std.proofs.Common.{◌≡◌, ℕ, ◌-◌, List, [], ◌∷◌, Ok, Err, sym, ap, ◌∙◌, subst}
 use Rattle.std.proofs.lemmas.Bool.{not-false}
 use Rattle.refusal.specs.Checks.{Check, first, unless}
 use Rattle.refusal.specs.declared.Refusal.{Refusal}
@@ -7,11 +7,9 @@ use Rattle.refusal.proofs.First.{held, passed, first_here, first_next}
 use Rattle.calendar.specs.Days.{within}
 use Rattle.tariff.specs.Meaning.{Meaning, Lawful}
 use Rattle.links.specs.Tables.{row_of, metres_check, fibres_check, row_checked, column_checked}
-use Rattle.links.specs.Quotations.{dates_real, basis_of, date_check, coefficient_check, dates_checked, basis_checked, place_of, placed, PlaceLimits}
+use Rattle.links.specs.Quotations.{dates_real, date_check, coefficient_check, dates_checked, basis_checked, place_of, placed, PlaceLimits}
 use Rattle.links.specs.declared.order.Order.{Order}
-use Rattle.links.specs.declared.order.Place.{Place}
 use Rattle.links.specs.declared.order.Basis.{Basis}
-use Rattle.links.specs.declared.order.Basis.TheVariants.{AbInitio}
 use Rattle.links.proofs.PlaceLimits as limits
 
 module _ (m : Meaning) (o : Order) where

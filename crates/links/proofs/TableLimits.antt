@@ -1,5 +1,5 @@
 -- No price of the tables passes 16,572 euros, by one test over each table.
-use Rattle.std.proofs.Common.{◌≡◌, ℕ, zero, suc, ◌*◌, ◌≤◌, Bool, true, ◌&&◌, List, [], ◌∷◌, get_or, refl, mul-le-mul_right, arith}
+use Rattle.std.proofs.Common.{◌≡◌, ℕ, zero, suc, ◌≤◌, Bool, true, ◌&&◌, List, [], ◌∷◌, get_or, refl, mul-le-mul_right, arith}
 use Rattle.std.proofs.lemmas.Bool.{and_parts}
 use Rattle.tariff.specs.Most.{all_at_most, at_most}
 use Rattle.links.specs.Tables.{reference, extra, price_at}

@@ -1,5 +1,5 @@
 -- What is priced on a sheet that was made.
-use Rattle.std.proofs.Common.{◌≡◌, Ok, Err, Result, ap, ◌∙◌}
+use Rattle.std.proofs.Common.{◌≡◌, Ok, Result, ap}
 use Rattle.refusal.specs.declared.Refusal.{Refusal}
 use Rattle.quote_lines.specs.Fields.{then_do}
 

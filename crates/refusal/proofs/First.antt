@@ -1,5 +1,5 @@
 -- One check after the other gives the first refusal of them all.
-use Rattle.std.proofs.Common.{◌≡◌, ℕ, Bool, true, false, cond, List, [], ◌∷◌, ◌++◌, Some, None, Ok, Err, Option, Result, sym, refl, ap, ◌∙◌, arith}
+use Rattle.std.proofs.Common.{◌≡◌, ℕ, Bool, true, false, cond, List, [], ◌∷◌, ◌++◌, Some, None, Ok, Err, Option, sym, refl, ap, ◌∙◌, arith}
 use Rattle.refusal.specs.Checks.{Check, first, unless, passing, then_do, in_turn, all_of}
 use Rattle.refusal.specs.declared.Refusal.{Refusal}
 

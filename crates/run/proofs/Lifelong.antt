@@ -8,7 +8,6 @@ use Rattle.book.specs.Life.{Life, begins, empty_state}
 use Rattle.book.specs.Lists.{total}
 use Rattle.book.specs.Runs.{lived}
 use Rattle.book.specs.Zone.{State, Tables, no_figures, preparing}
-use Rattle.book.specs.Promises.{prepared}
 use Rattle.book.specs.declared.prepared.PreparedZone.{PreparedZone}
 use Rattle.book.specs.declared.zone.Figures.{Figures}
 use Rattle.book.specs.declared.zone.Totals.{Totals}

@@ -1,5 +1,5 @@
 -- The notices of what a file tells, part by part.
-use Rattle.std.proofs.Common.{◌≡◌, ℕ, List, [], ◌∷◌, ◌++◌, Some, None, Ok, Err, Option, Result, sym, refl, ap, ◌∙◌, append_assoc, arith}
+use Rattle.std.proofs.Common.{◌≡◌, ℕ, List, [], ◌∷◌, ◌++◌, Some, None, Err, Option, sym, refl, ap, ◌∙◌, append_assoc, arith}
 use Rattle.refusal.specs.declared.Refusal.{Refusal}
 use Rattle.tariff.specs.Meaning.{Meaning}
 use Rattle.event_file.specs.Format.{Shown, label_of}
@@ -7,7 +7,7 @@ use Rattle.book.specs.Zone.{State}
 use Rattle.book.specs.Runs.{Step, answer_at, next, lived}
 use Rattle.run.specs.Telling.{Telling, told_event, told_fault, fault_at}
 use Rattle.run.specs.Taking.{call_of, refusal_to, steps_for}
-use Rattle.run.specs.Reports.{ShownNotice, without_end_blanks, bare, notice_of, notices, steps_told}
+use Rattle.run.specs.Reports.{without_end_blanks, bare, notice_of, notices, steps_told}
 use Rattle.run.specs.Zones.{answered_as}
 
 -- an event that is refused has one notice

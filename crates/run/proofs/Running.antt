@@ -1,5 +1,5 @@
 -- How far a run has come: what it has noted and what is left give the whole.
-use Rattle.std.proofs.Common.{◌≡◌, ℕ, zero, suc, ◌+◌, ◌-◌, ◌/◌, ◌<◌, ◌≤◌, Bool, List, [], ◌++◌, length, Ok, sym, refl, ap, ◌∙◌, subst, append_assoc, append-nil, arith}
+use Rattle.std.proofs.Common.{◌≡◌, ℕ, zero, suc, ◌+◌, ◌-◌, ◌/◌, ◌<◌, ◌≤◌, Bool, List, ◌++◌, length, Ok, sym, refl, ap, ◌∙◌, subst, append_assoc, append-nil, arith}
 use Rattle.tariff.specs.Meaning.{Meaning}
 use Rattle.event_file.specs.Blocks.{file_blocks}
 use Rattle.event_file.specs.Reading.{end, places, step_after, step_at}

@@ -1,10 +1,9 @@
 -- What the tests on prices and terms tell of each price, the contribution and each weight.
 use Rattle.std.specs.Prelude.{◌≡◌, ℕ, ◌≤◌, Bool, true, false, T, Some, None, Option, nat_le, slice_index, refl}
-use Rattle.std.proofs.Common.{arith}
 use Rattle.std.specs.Option.{option_map}
 use Rattle.std.proofs.lemmas.Bool.{and_parts, leb-true}
 use Rattle.tariff.specs.Meaning.{Answered, PriceLimits}
-use Rattle.tariff.specs.Most.{all_at_most, at_most}
+use Rattle.tariff.specs.Most.{at_most}
 use Rattle.sheet_parts.specs.Given.{price_of, price_fits, prices_fit, terms_fit, fit_if_given}
 use Rattle.tariff.specs.declared.kinds.Kind.{Kind}
 use Rattle.tariff.specs.declared.kinds.Kind.TheVariants.{Covered, Connectable, ThirdParty}

@@ -1,6 +1,6 @@
 -- Both roundings miss a fraction by less than one.
-use Rattle.std.specs.Prelude.{◌≡◌, ℕ, ◌+◌, ◌*◌, ◌/◌, ◌%◌, ◌<◌, ◌≤◌, Bool, true, false, cond, ◌≢◌, nat_le, nat_lt, refl}
-use Rattle.std.proofs.Common.{sym, ap, ◌∙◌, add-mul, div-add-mod', mod-lt, arith, ⊎_elim}
+use Rattle.std.specs.Prelude.{◌≡◌, ℕ, ◌+◌, ◌*◌, ◌/◌, ◌%◌, ◌<◌, Bool, false, ◌≢◌, nat_le, nat_lt, refl}
+use Rattle.std.proofs.Common.{ap, ◌∙◌, add-mul, div-add-mod', mod-lt, arith, ⊎_elim}
 use Rattle.std.proofs.Math.Nat.{zero-div}
 use Rattle.std.proofs.lemmas.Bool.{cond_both, cases_eq, both_ways}
 use Rattle.tariff.specs.Meaning.{Near}

@@ -1,6 +1,6 @@
 -- The limits of the common row, by one test over the whole table.
-use Rattle.std.specs.Prelude.{◌≡◌, ℕ, ◌+◌, ◌-◌, ◌*◌, ◌/◌, ◌%◌, ◌≤◌, Bool, cond, nat_lt, refl}
-use Rattle.std.proofs.Common.{ap, ◌∙◌, mul-le-mul, mul-le-mul_left, arith}
+use Rattle.std.specs.Prelude.{◌≡◌, ℕ, ◌+◌, ◌-◌, ◌*◌, ◌/◌, ◌%◌, ◌≤◌, nat_lt, refl}
+use Rattle.std.proofs.Common.{mul-le-mul, mul-le-mul_left, arith}
 use Rattle.std.proofs.lemmas.Bool.{cond_both}
 use Rattle.tariff.specs.Meaning.{CoefficientLimits}
 use Rattle.tariff.specs.Most.{at_most}

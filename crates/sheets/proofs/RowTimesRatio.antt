@@ -1,5 +1,5 @@
 -- The row times a ratio of index numbers passes no limit of the tariff but the value 4.
-use Rattle.std.proofs.Common.{◌≡◌, ℕ, ◌*◌, ◌<◌, ◌≤◌, Bool, true, cond, ◌&&◌, leb, Some, None, Option, sym, ap, ◌∙◌, mul-le-mul, arith}
+use Rattle.std.proofs.Common.{◌≡◌, ℕ, ◌*◌, ◌≤◌, true, Some, None, sym, ap, ◌∙◌, mul-le-mul, arith}
 use Rattle.std.proofs.lemmas.Bool.{cond-true, and_from, le-leb}
 use Rattle.sheets.specs.Indexing.{times, coefficient_fits, if_fits, RatioLimits}
 use Rattle.sheet_parts.specs.Row.{coefficient_after}

@@ -1,5 +1,5 @@
 -- The dated sheet keeps the limits of the five answers.
-use Rattle.std.specs.Prelude.{◌≡◌, ℕ, true, Some, None, Option, nat_le}
+use Rattle.std.specs.Prelude.{Some, None, Option, nat_le}
 use Rattle.std.specs.Option.{option_map}
 use Rattle.calendar.specs.Days.{months_between}
 use Rattle.series.specs.Lookups.{in_force_on}

@@ -1,5 +1,5 @@
 -- The flat sheet: three prices on every date, the common row, five-down.
-use Rattle.std.specs.Prelude.{ℕ, Some, None, Option, slice_index}
+use Rattle.std.specs.Prelude.{Some, Option, slice_index}
 use Rattle.std.specs.Option.{option_map}
 use Rattle.calendar.specs.Days.{months_between}
 use Rattle.tariff.specs.Meaning.{Meaning}

@@ -1,13 +1,7 @@
 -- The flat sheet keeps the limits of the five answers.
-use Rattle.std.specs.Prelude.{◌≡◌, ℕ, ◌≤◌, true, T, leb, get_or, Some, None, Option}
-use Rattle.std.proofs.Common.{arith}
-use Rattle.std.specs.Option.{option_map}
-use Rattle.std.proofs.lemmas.Bool.{and_parts, leb-true}
-use Rattle.tariff.specs.Meaning.{Answered, PriceLimits, Lawful}
-use Rattle.tariff.specs.Most.{at_most}
+use Rattle.tariff.specs.Meaning.{Lawful}
 use Rattle.sheet_parts.specs.Nearness.{near_five_down}
 use Rattle.sheet_parts.specs.RowLimits.{after_limits}
-use Rattle.sheet_parts.specs.Given.{price_of, price_fits, prices_fit, terms_fit, fit_if_given}
 use Rattle.sheet_parts.specs.GivenLimits.{given_limits, contribution_limit, weight_limit}
 use Rattle.sheets.specs.Flat.{flat_meaning}
 use Rattle.sheets.specs.declared.flat.FlatSheet.{FlatSheet}

@@ -1,5 +1,5 @@
 -- The indexed sheet keeps the limits of the five answers.
-use Rattle.std.specs.Prelude.{◌≡◌, ℕ, ◌*◌, Bool, true, false, cond, ◌&&◌, Some, None, Option, nat_le, refl}
+use Rattle.std.specs.Prelude.{◌≡◌, ◌*◌, true, Some, None, Option, nat_le}
 use Rattle.std.proofs.lemmas.Bool.{and_parts, leb-true, cond_both}
 use Rattle.calendar.specs.Days.{within, months_between}
 use Rattle.series.specs.Lookups.{in_force_before}

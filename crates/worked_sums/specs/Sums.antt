@@ -12,7 +12,7 @@ use Rattle.sheets.specs.DatedSheets.{dated}
 use Rattle.sheets.specs.Network.{network_records}
 use Rattle.sheets.specs.IndexedSheets.{indexed}
 use Rattle.tariff.specs.declared.kinds.Kind.{Kind}
-use Rattle.tariff.specs.declared.kinds.Kind.TheVariants.{Covered, Connectable, ThirdParty}
+use Rattle.tariff.specs.declared.kinds.Kind.TheVariants.{Connectable}
 use Rattle.tariff.specs.declared.kinds.Coefficient.{Coefficient}
 use Rattle.sheet_parts.specs.declared.given.Prices.{Prices}
 use Rattle.book.specs.Lists.{total, each}

@@ -1,12 +1,12 @@
 -- A levy with room for the longest share-out is never left open.
-use Rattle.std.proofs.Common.{◌≡◌, ℕ, ◌*◌, ◌≤◌, List, length, take, Ok, Err, sym, ap, ◌∙◌, subst, mul-le-mul, arith}
+use Rattle.std.proofs.Common.{◌≡◌, ℕ, ◌*◌, ◌≤◌, List, length, take, Ok, Err, sym, ap, ◌∙◌, mul-le-mul, arith}
 use Rattle.std.proofs.lemmas.List.{length-take}
 use Rattle.refusal.specs.declared.Refusal.{Refusal}
 use Rattle.refusal.specs.declared.Refusal.TheVariants.{StripTooShort}
 use Rattle.tariff.specs.Meaning.{Meaning}
 use Rattle.book.specs.Members.{member_of}
 use Rattle.book.specs.Zone.{Tables, Phase, preparing, launched, levied, Effect, Answer, counted_register, counted_members}
-use Rattle.book.specs.Answers.{added, billing, billing_checks, billing_effect, settling, settling_effect}
+use Rattle.book.specs.Answers.{added, billing, billing_checks, billing_effect, settling}
 use Rattle.book.specs.Grounds.{ShareOutFollows, LinesCounted}
 use Rattle.book.specs.Promises.{levied_on}
 use Rattle.book.specs.declared.lines.Line.{Line}

@@ -1,4 +1,4 @@
-use Rattle.std.proofs.Common.{eqb, sym, ap, ◌∙◌, arith}
+use Rattle.std.proofs.Common.{eqb, sym, ◌∙◌, arith}
 use Rattle.std.proofs.lemmas.Bool.{eq-eqb, ne_eqb}
 use Rattle.book.proofs.Seeking.{any_here, any_next, any_none}
 use Rattle.book.proofs.tables.has_number.Goals as goal

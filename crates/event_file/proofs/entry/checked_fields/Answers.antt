@@ -1,4 +1,3 @@
-use Rattle.std.proofs.Common.{sym, ◌∙◌}
 use Rattle.event_file.proofs.Cuts.{refused_content, same_bad, whole_label}
 use Rattle.event_file.proofs.entry.checked_fields.Goals as goal
 

@@ -1,4 +1,4 @@
-use Rattle.std.proofs.Common.{sym, ◌∙◌}
+use Rattle.std.proofs.Common.{sym}
 use Rattle.event_file.proofs.Printing.{utf8_printed}
 use Rattle.event_file.proofs.label.printed.Goals as goal
 

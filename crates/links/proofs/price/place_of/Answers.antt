@@ -1,4 +1,4 @@
-use Rattle.std.proofs.Common.{◌≡◌, sym, ◌∙◌}
+use Rattle.std.proofs.Common.{sym, ◌∙◌}
 use Rattle.std.proofs.lemmas.Result.{err_from_is_err_and, IfOk-from_err}
 use Rattle.links.specs.Quotations.{PlaceLimits}
 use Rattle.links.proofs.Placing.{by_dates, by_basis, by_row, by_column, found_place, found_limits}

@@ -1,4 +1,4 @@
-use Rattle.std.proofs.Common.{◌≡◌, ◌&&◌, ap, ◌∙◌}
+use Rattle.std.proofs.Common.{◌&&◌, ap, ◌∙◌}
 use Rattle.series.specs.Limits.{index_fits}
 use Rattle.series.specs.Rows.{sound}
 use Rattle.sheet_parts.specs.Given.{prices_fit, terms_fit, making}

@@ -1,4 +1,4 @@
-use Rattle.std.proofs.Common.{◌≡◌, ℕ, ◌*◌, ◌≤◌, length, take, Some, refl, ap, mul-le-mul, arith}
+use Rattle.std.proofs.Common.{◌*◌, ◌≤◌, length, take, Some, refl, ap, mul-le-mul, arith}
 use Rattle.std.proofs.lemmas.List.{length-take}
 use Rattle.std.proofs.lemmas.Result.{err_from_is_err_and}
 use Rattle.book.specs.Answers.{settling}

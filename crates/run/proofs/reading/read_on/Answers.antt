@@ -1,4 +1,4 @@
-use Rattle.std.proofs.Common.{◌+◌, true, false, [], ◌∷◌, ◌++◌, vec_items, vec_len, vec_capacity, sym, refl, ap, ◌∙◌, append-nil, arith}
+use Rattle.std.proofs.Common.{◌+◌, true, false, [], ◌∷◌, ◌++◌, vec_items, vec_len, sym, refl, ap, ◌∙◌, append-nil, arith}
 use Rattle.event_file.specs.Reading.{places}
 use Rattle.book.specs.Lists.{each}
 use Rattle.book.specs.Passing.{tables}

@@ -1,11 +1,11 @@
-use Rattle.std.proofs.Common.{◌≡◌, ◌+◌, ◌++◌, vec_items, sym, refl, ap, ◌∙◌, arith}
+use Rattle.std.proofs.Common.{◌≡◌, ◌+◌, ◌++◌, sym, refl, ap, ◌∙◌, arith}
 use Rattle.std.proofs.lemmas.Result.{err_from_is_err_and, IfOk-from_err}
 use Rattle.book.specs.Lists.{each}
 use Rattle.book.specs.Passing.{tables}
 use Rattle.book.specs.Runs.{lived}
 use Rattle.book.specs.Zone.{State}
 use Rattle.money.specs.Signs.{apart, below_zero}
-use Rattle.run.specs.Reports.{ending, file_steps, notices, paid_out}
+use Rattle.run.specs.Reports.{ending, file_steps, notices}
 use Rattle.run.specs.Steps.{shown_notice}
 use Rattle.run.specs.Telling.{file_tells}
 use Rattle.run.specs.Zones.{state_in}

@@ -1,4 +1,4 @@
-use Rattle.std.proofs.Common.{◌≡◌, ◌+◌, ◌-◌, ◌/◌, ◌%◌, ◌<◌, ◌≤◌, arith, rules}
+use Rattle.std.proofs.Common.{◌+◌, ◌-◌, ◌/◌, ◌%◌, arith, rules}
 use Rattle.sheet_parts.specs.Row.{coefficient_after, after_years}
 use Rattle.sheet_parts.specs.RowLimits.{part_most}
 use Rattle.sheet_parts.proofs.Interpolation.{mean_between}

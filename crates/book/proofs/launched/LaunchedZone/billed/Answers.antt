@@ -1,4 +1,4 @@
-use Rattle.std.proofs.Common.{◌≡◌, length, Ok, sym, refl, ap, ◌∙◌, arith}
+use Rattle.std.proofs.Common.{◌≡◌, length, Ok, refl, ap, ◌∙◌, arith}
 use Rattle.refusal.specs.Checks.{first}
 use Rattle.refusal.proofs.First.{carried, still_refused}
 use Rattle.book.specs.Members.{addition}

@@ -1,11 +1,9 @@
-use Rattle.std.proofs.Common.{◌≡◌, ◌≤◌, [], ◌∷◌, ◌++◌, length, take, Ok, sym, refl, ap, ◌∙◌, subst, arith}
+use Rattle.std.proofs.Common.{[], ◌∷◌, Ok, sym, refl, ap, ◌∙◌, arith}
 use Rattle.refusal.specs.Checks.{first}
 use Rattle.refusal.proofs.First.{carried, still_refused, in_turn_is}
-use Rattle.book.specs.Members.{entered_roll}
 use Rattle.book.specs.Zone.{counted_roll}
 use Rattle.book.specs.Refusals.{tables_check, date_checks, roll_checks}
 use Rattle.book.specs.Answers.{subscription_checks, subscription_effect}
-use Rattle.book.specs.Increases.{addition_in}
 use Rattle.book.specs.Passing.{tables}
 use Rattle.book.proofs.Admitting.{rates_sound}
 use Rattle.book.proofs.Joining.{subscribable, room_of, subscription_done}
