@@ -1,6 +1,6 @@
 -- What a row says of the answer by its place among the others.
 use Rattle.std.proofs.Common.{◌≡◌, ℕ, ◌<◌, ◌≤◌, Bool, true, false, cond, ltb, leb, List, [], ◌∷◌, ◌++◌, Some, None, Option, sym, refl, ap, ◌∙◌, arith}
-use Rattle.std.specs.List.{AllByRecursion as All}
+use Rattle.std.specs.List.{AllByRecursion}
 use Rattle.std.proofs.ByRecursion.{All-weaker}
 use Rattle.std.proofs.lemmas.Bool.{le-leb, lt-leb, lt-ltb, le-ltb}
 use Rattle.series.specs.declared.rows.Dated.{Dated}
@@ -31,7 +31,7 @@ below_rises : {V : Type 0} (above below : List (Dated V)) → rising (above ++ b
 below_rises [] below up = up
 below_rises (row ∷ above) below up = below_rises above below (tail_rises row (above ++ below) up)
 
-above_earlier : {V : Type 0} (above below : List (Dated V)) (row : Dated V) → rising (above ++ (row ∷ below)) ≡ true → All (λ a. a.date < row.date) above
+above_earlier : {V : Type 0} (above below : List (Dated V)) (row : Dated V) → rising (above ++ (row ∷ below)) ≡ true → AllByRecursion (λ a. a.date < row.date) above
 above_earlier [] below row up = tt
 above_earlier (a ∷ []) below row up = (head_rises a row below up, tt)
 above_earlier (a ∷ (b ∷ above)) below row up =
@@ -48,7 +48,7 @@ none_from passes day fails row (next ∷ rows) up from =
     ∙ ap (λ t. cond t (Some row.value) None) (fails row.date from)
 
 -- a test that every row passes finds the newest
-all_newest : {V : Type 0} (passes : ℕ → Bool) (rows : List (Dated V)) → All (λ row. passes row.date ≡ true) rows → last_value passes rows ≡ newest rows
+all_newest : {V : Type 0} (passes : ℕ → Bool) (rows : List (Dated V)) → AllByRecursion (λ row. passes row.date ≡ true) rows → last_value passes rows ≡ newest rows
 all_newest passes [] all = refl
 all_newest passes (row ∷ rows) all =
     ap (λ o. or_else o (cond (passes row.date) (Some row.value) None)) (all_newest passes rows all.1)
