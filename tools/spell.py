@@ -3,9 +3,9 @@
 
 usage: python3 tools/spell.py      at the top of the repository
 
-Words are in snake case, types in camel case: rate-of becomes rate_of, Held-under becomes HeldUnder. Names that other
-libraries have, names that Rattle makes for a function's goals, strings and comments stay as they are, but the list of
-its definitions at the head of a file follows their names.
+Words are in snake case, types in camel case: rate-of becomes rate_of, Held-under becomes HeldUnder. Two get another
+name, since theirs would be that of a field. Names that other libraries have, names that Rattle makes for a function's
+goals, strings and comments stay as they are, but the list of definitions at the head of a file follows their names.
 """
 
 import os
@@ -16,7 +16,9 @@ GOALS = ("Answers.antt", "Invariants.antt", "Proof.antt", "Choices.antt")
 DASHED = re.compile(r"(?<![\w'\u25cc-])[A-Za-z_\u25cc][\w'\u25cc]*(?:-[\w'\u25cc]+)+(?![\w'\u25cc-])")
 IMPORT = re.compile(r"use ([A-Za-z][\w.+]*)\.\{([^}]*)\}")
 # the names that head a line of a file's list of its definitions
-LISTED = re.compile(r"(?:--   +\S+(?: \S+)*(?=  ))?")
+LISTED = re.compile(r"(?:--   +(?:\S+(?: \S+)*(?=  )|\S+))?")
+# names that would fall together with a ghost field of the sheets
+APART = {"prices-fit": "prices_in_limits", "terms-fit": "terms_in_limits"}
 
 
 def files():
@@ -44,6 +46,8 @@ def mark_of(path):
 
 
 def spelled(name):
+    if name in APART:
+        return APART[name]
     if name[0].isupper():
         return "".join(word[:1].upper() + word[1:] for word in re.split("[-_]", name))
     return name.replace("-", "_")

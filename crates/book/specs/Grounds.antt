@@ -2,7 +2,7 @@
 --   ShareOutFollows      what an accepted commitment or raise billed can be shared out
 --   LinesCounted         how many lines a call writes at most
 --   NumbersFit           the numbers that a life can reach
---   Every-share-out-fits what a share-out can reach from any accepted tables
+--   EveryShareOutFits    what a share-out can reach from any accepted tables
 --   EnteredAsBilled      the tranches that a share-out enters are those that were billed
 use Rattle.std.specs.Prelude.{◌≡◌, ℕ, ◌+◌, ◌*◌, ◌<◌, ◌≤◌, cond, ◌&&◌, List, length, Some, Ok, Err, ◌==◌, slice_index}
 use Rattle.refusal.specs.declared.Refusal.{Refusal}

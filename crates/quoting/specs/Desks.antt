@@ -11,7 +11,7 @@ use Rattle.series.specs.Rows.{sound}
 use Rattle.series.specs.declared.rows.Dated.{Dated}
 use Rattle.series.specs.declared.limits.IndexNumber.{IndexNumber}
 use Rattle.tariff.specs.Meaning.{Meaning}
-use Rattle.sheet_parts.specs.Given.{prices_fit, terms_fit, making}
+use Rattle.sheet_parts.specs.Given.{prices_in_limits, terms_in_limits, making}
 use Rattle.sheets.specs.Flat.{flat}
 use Rattle.sheets.specs.IndexedSheets.{indexed}
 use Rattle.sheets.specs.DatedSheets.{dated}
@@ -64,16 +64,16 @@ priced m request = priced_as m request.item request.order
 -- On each sheet, unless what it is made of is refused.
 abbrev pub on_flat : Request → Result Quotation Refusal
 on_flat request =
-    then_do (making (prices_fit desk_prices && terms_fit desk_terms)) (λ _. priced (flat (Some desk_prices) desk_terms) request)
+    then_do (making (prices_in_limits desk_prices && terms_in_limits desk_terms)) (λ _. priced (flat (Some desk_prices) desk_terms) request)
 
 abbrev pub on_indexed : List (Dated IndexNumber) → List (Dated IndexNumber) → Request → Result Quotation Refusal
 on_indexed wages consumer request =
-    then_do (making ((prices_fit desk_prices && terms_fit desk_terms) && (sound index_fits wages && sound index_fits consumer)))
+    then_do (making ((prices_in_limits desk_prices && terms_in_limits desk_terms) && (sound index_fits wages && sound index_fits consumer)))
     (λ _. priced (indexed (Some desk_prices) desk_terms wages consumer) request)
 
 abbrev pub on_dated : List (Dated Prices) → Request → Result Quotation Refusal
 on_dated records request =
-    then_do (making (sound prices_fit records && terms_fit desk_terms)) (λ _. priced (dated records desk_terms) request)
+    then_do (making (sound prices_in_limits records && terms_in_limits desk_terms)) (λ _. priced (dated records desk_terms) request)
 
 abbrev pub priced_by : Choice → State → Request → Result Quotation Refusal
 priced_by choice.Flat s request = on_flat request

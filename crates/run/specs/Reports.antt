@@ -1,9 +1,9 @@
 -- What a run of an event file reports.
---   Shown-notice a refusal with its place and the text of its label
+--   ShownNotice  a refusal with its place and the text of its label
 --   notices      the refusals of what a file tells, in order, from a state on
 --   steps_told   the steps that the events of a file ask for
 --   ending       the state of zone and tables after a file
---   Runs-as-life the run of a file is a life, and the accounts hold at its end
+--   RunsAsLife   the run of a file is a life, and the accounts hold at its end
 use Rattle.std.specs.Prelude.{ℕ, ◌+◌, cond, List, [], ◌∷◌, ◌++◌, Some, None, Option, ◌==◌}
 use Rattle.refusal.specs.declared.Refusal.{Refusal}
 use Rattle.tariff.specs.Meaning.{Meaning}

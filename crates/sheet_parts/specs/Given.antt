@@ -1,6 +1,6 @@
 -- What a sheet is given when it is made, and its limits.
---   prices_fit  each price is from 1 to 500,000,000 micro-euros
---   terms_fit   the contribution is at most 100 hundredths, and each weight at most 200
+--   prices_in_limits  each price is from 1 to 500,000,000 micro-euros
+--   terms_in_limits   the contribution is at most 100 hundredths, and each weight at most 200
 use Rattle.std.specs.Prelude.{ℕ, Bool, true, not, ◌&&◌, [], ◌∷◌, replicate, Some, None, Option, Result, nat_le}
 use Rattle.refusal.specs.Checks.{◌⇒◌, first, unless}
 use Rattle.refusal.specs.declared.Refusal.{Refusal}
@@ -20,16 +20,16 @@ price_of p ThirdParty = p.third
 abbrev pub price_fits : ℕ → Bool
 price_fits price = within 1 price 500000000
 
-abbrev pub prices_fit : Prices → Bool
-prices_fit p = price_fits p.covered && (price_fits p.connectable && price_fits p.third)
+abbrev pub prices_in_limits : Prices → Bool
+prices_in_limits p = price_fits p.covered && (price_fits p.connectable && price_fits p.third)
 
-abbrev pub terms_fit : Terms → Bool
-terms_fit t = nat_le t.contribution 100 && all_at_most 200 t.weights
+abbrev pub terms_in_limits : Terms → Bool
+terms_in_limits t = nat_le t.contribution 100 && all_at_most 200 t.weights
 
 -- The prices of a sheet that may not be filled yet.
 abbrev pub fit_if_given : Option Prices → Bool
 fit_if_given None = true
-fit_if_given (Some p) = prices_fit p
+fit_if_given (Some p) = prices_in_limits p
 
 abbrev pub no_terms : Terms
 no_terms = record { contribution = 0; weights = replicate 41 0 }

@@ -1,6 +1,6 @@
 // What a sheet is given when it is made: its prices, and how contributions are levied and shared.
 ghost use Rattle.std.specs.Prelude.{◌≡◌, slice_index};
-ghost use Rattle.sheet_parts.specs.Given.{price_of, price_fits, prices_fit, terms_fit};
+ghost use Rattle.sheet_parts.specs.Given.{price_of, price_fits, prices_in_limits, terms_in_limits};
 ghost use Rattle.tariff.specs.Most.{all_at_most};
 
 use series::Limited;
@@ -62,7 +62,7 @@ impl Prices {
 }
 
 impl Limited for Prices {
-    ghost fits = { prices_fit };
+    ghost fits = { prices_in_limits };
 
     // Each price is from 1 to 500,000,000 micro-euros.
     fn in_limits(&self) -> bool {
@@ -77,7 +77,7 @@ const fn price_fits(price: u32) -> bool
 }
 
 impl Limited for Terms {
-    ghost fits = { terms_fit };
+    ghost fits = { terms_in_limits };
 
     // The contribution is at most 100 hundredths, and each weight at most 200.
     fn in_limits(&self) -> bool {

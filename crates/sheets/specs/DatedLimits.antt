@@ -8,14 +8,14 @@ use Rattle.series.specs.Found.{Keeps, kept_found}
 use Rattle.tariff.specs.Meaning.{Answered, PriceLimits, Lawful}
 use Rattle.sheet_parts.specs.Nearness.{near_five_up}
 use Rattle.sheet_parts.specs.RowLimits.{after_limits}
-use Rattle.sheet_parts.specs.Given.{price_of, prices_fit}
+use Rattle.sheet_parts.specs.Given.{price_of, prices_in_limits}
 use Rattle.sheet_parts.specs.GivenLimits.{prices_limits, contribution_limit, weight_limit}
 use Rattle.sheets.specs.DatedSheets.{dated_meaning}
 use Rattle.tariff.specs.declared.kinds.Kind.{Kind}
 use Rattle.sheet_parts.specs.declared.given.Prices.{Prices}
 use Rattle.sheets.specs.declared.dated.DatedSheet.{DatedSheet}
 
-found_limits : (found : Option Prices) (kind : Kind) → Keeps prices_fit found → Answered PriceLimits (option_map (λ p. price_of p kind) found)
+found_limits : (found : Option Prices) (kind : Kind) → Keeps prices_in_limits found → Answered PriceLimits (option_map (λ p. price_of p kind) found)
 found_limits None kind fits = tt
 found_limits (Some p) kind fits = prices_limits p kind fits
 
@@ -23,7 +23,7 @@ pub dated_lawful : (sheet : DatedSheet) → Lawful (dated_meaning sheet)
 dated_lawful sheet = record {
   prices = λ kind installed _.
       let records = rows_of sheet.prices in
-      found_limits (in_force_on records installed) kind (kept_found prices_fit (λ date. nat_le date installed) records sheet.prices_fit);
+      found_limits (in_force_on records installed) kind (kept_found prices_in_limits (λ date. nat_le date installed) records sheet.prices_fit);
   coefficients = λ installed receipt _ _. after_limits (months_between installed receipt);
   contributions = contribution_limit sheet.terms sheet.terms_fit;
   weights = λ index _. weight_limit sheet.terms sheet.terms_fit index;

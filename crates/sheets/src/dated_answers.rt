@@ -1,7 +1,7 @@
 // How the dated sheet is filled, and what it answers.
 ghost use Rattle.std.specs.Prelude.{◌≡◌, ◌&&◌, [], MatchResult};
 ghost use Rattle.series.specs.Rows.{sound};
-ghost use Rattle.sheet_parts.specs.Given.{prices_fit, terms_fit, no_terms, making};
+ghost use Rattle.sheet_parts.specs.Given.{prices_in_limits, terms_in_limits, no_terms, making};
 ghost use Rattle.sheets.specs.DatedSheets.{dated, dated_meaning};
 ghost use Rattle.sheets.specs.DatedLimits.{dated_lawful};
 
@@ -29,7 +29,7 @@ impl<'a> DatedSheet<'a> {
 
     // Fills the sheet with a series of price records and terms, or refuses them and leaves it as it was.
     pub fn fill(&mut self, prices: &'a [Dated<Prices>], terms: Terms) -> Result<(), Refusal>
-        ensures answer { result ≡ making (sound prices_fit prices.now && terms_fit terms) }
+        ensures answer { result ≡ making (sound prices_in_limits prices.now && terms_in_limits terms) }
         ensures after { MatchResult result (λ _. dated_meaning self.new ≡ dated prices.now terms) (λ _. self.new ≡ self.old) }
     {
         let mut records = Series::empty();

@@ -1,6 +1,6 @@
 // The flat sheet: three prices, the same on every date.
 ghost use Rattle.std.specs.Prelude.{T};
-ghost use Rattle.sheet_parts.specs.Given.{fit_if_given, terms_fit};
+ghost use Rattle.sheet_parts.specs.Given.{fit_if_given, terms_in_limits};
 
 use sheet_parts::given::{Prices, Terms};
 
@@ -10,5 +10,5 @@ pub struct FlatSheet {
     pub(crate) prices: Option<Prices>,
     pub(crate) terms: Terms,
     ghost prices_fit: { T (fit_if_given prices) },
-    ghost terms_fit: { T (terms_fit terms) },
+    ghost terms_fit: { T (terms_in_limits terms) },
 }

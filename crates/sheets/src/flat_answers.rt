@@ -1,6 +1,6 @@
 // How the flat sheet is filled, and what it answers.
 ghost use Rattle.std.specs.Prelude.{◌≡◌, ◌&&◌, Some, None, MatchResult};
-ghost use Rattle.sheet_parts.specs.Given.{prices_fit, terms_fit, no_terms, making};
+ghost use Rattle.sheet_parts.specs.Given.{prices_in_limits, terms_in_limits, no_terms, making};
 ghost use Rattle.sheets.specs.Flat.{flat, flat_meaning};
 ghost use Rattle.sheets.specs.FlatLimits.{flat_lawful};
 
@@ -28,7 +28,7 @@ impl FlatSheet {
 
     // Fills the sheet with prices and terms, or refuses them and leaves it as it was.
     pub fn fill(&mut self, prices: Prices, terms: Terms) -> Result<(), Refusal>
-        ensures answer { result ≡ making (prices_fit prices && terms_fit terms) }
+        ensures answer { result ≡ making (prices_in_limits prices && terms_in_limits terms) }
         ensures after { MatchResult result (λ _. flat_meaning self.new ≡ flat (Some prices) terms) (λ _. self.new ≡ self.old) }
     {
         if !prices.in_limits() || !terms.in_limits() {

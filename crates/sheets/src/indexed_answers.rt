@@ -2,7 +2,7 @@
 ghost use Rattle.std.specs.Prelude.{◌≡◌, ◌&&◌, [], Some, None, MatchResult};
 ghost use Rattle.series.specs.Limits.{index_fits};
 ghost use Rattle.series.specs.Rows.{sound};
-ghost use Rattle.sheet_parts.specs.Given.{prices_fit, terms_fit, no_terms, making};
+ghost use Rattle.sheet_parts.specs.Given.{prices_in_limits, terms_in_limits, no_terms, making};
 ghost use Rattle.sheets.specs.IndexedSheets.{indexed, indexed_meaning};
 ghost use Rattle.sheets.specs.IndexedLimits.{indexed_lawful};
 
@@ -38,7 +38,7 @@ impl<'a> IndexedSheet<'a> {
         wages: &'a [Dated<IndexNumber>],
         consumer: &'a [Dated<IndexNumber>],
     ) -> Result<(), Refusal>
-        ensures answer { result ≡ making ((prices_fit prices && terms_fit terms) && (sound index_fits wages.now && sound index_fits consumer.now)) }
+        ensures answer { result ≡ making ((prices_in_limits prices && terms_in_limits terms) && (sound index_fits wages.now && sound index_fits consumer.now)) }
         ensures after { MatchResult result (λ _. indexed_meaning self.new ≡ indexed (Some prices) terms wages.now consumer.now) (λ _. self.new ≡ self.old) }
     {
         if !prices.in_limits() || !terms.in_limits() {

@@ -1,7 +1,7 @@
 // The network's own price records.
 ghost use Rattle.std.specs.Prelude.{◌≡◌, true};
 ghost use Rattle.series.specs.Rows.{sound};
-ghost use Rattle.sheet_parts.specs.Given.{prices_fit};
+ghost use Rattle.sheet_parts.specs.Given.{prices_in_limits};
 ghost use Rattle.sheets.specs.Network.{network_records};
 
 use series::Dated;
@@ -54,7 +54,7 @@ const RECORDS: [Dated<Prices>; 5] = [
 // The records, which make a series.
 pub fn network_records() -> &'static [Dated<Prices>]
     ensures value { result.now ≡ network_records }
-    ensures sound { sound prices_fit result.now ≡ true }
+    ensures sound { sound prices_in_limits result.now ≡ true }
 {
     &RECORDS
 }

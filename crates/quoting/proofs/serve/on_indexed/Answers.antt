@@ -1,7 +1,7 @@
 use Rattle.std.proofs.Common.{◌&&◌, ap, ◌∙◌}
 use Rattle.series.specs.Limits.{index_fits}
 use Rattle.series.specs.Rows.{sound}
-use Rattle.sheet_parts.specs.Given.{prices_fit, terms_fit, making}
+use Rattle.sheet_parts.specs.Given.{prices_in_limits, terms_in_limits, making}
 use Rattle.quoting.specs.Desks.{desk_prices, desk_terms, priced}
 use Rattle.quoting.proofs.Making.{made_of}
 use Rattle.quoting.proofs.serve.on_indexed.Goals as goal
@@ -11,6 +11,6 @@ returns c =
     let wages = c.args.wages.now in
     let consumer = c.args.consumer.now in
     let request = c.args.request.now in
-    let fits = (prices_fit desk_prices && terms_fit desk_terms) && (sound index_fits wages && sound index_fits consumer) in
+    let fits = (prices_in_limits desk_prices && terms_in_limits desk_terms) && (sound index_fits wages && sound index_fits consumer) in
     let asked = c.price_of.ensures.value ∙ ap (λ m. priced m request) c.in_ok-fill.ensures.after in
     record { value = asked ∙ made_of (making fits) _ _ c.in_ok-fill.ensures.answer }
