@@ -1,4 +1,4 @@
-// Every entry of the link tables, at both edges of its row, ab initio and ex post: tools/link_cases.py writes the orders
+// Every entry of the link tables, at both edges of its row, ab initio and ex post: tools/quote_model.py writes the orders
 // and works out the replies.
 #![tactic(auto)]
 

@@ -1,3 +1,4 @@
 pub mod TableLimits
 pub mod PlaceLimits
 pub mod Placing
+pub mod Rows

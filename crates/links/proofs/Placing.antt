@@ -35,9 +35,6 @@ module _ (m : Meaning) (o : Order) where
         past_row : unless (first from_column) (place_of m o) ≡ placed m o
         past_row = first_next (metres_check o.metres) from_column (place_of m o) (passed (metres_check o.metres) _ row in_row).0 ∙ past_basis
 
-        pub by_column : (e : Refusal) → column_checked o.fibres ≡ Err e → Err e ≡ placed m o
-        by_column e is = first_here (fibres_check o.fibres) [] (place_of m o) e (held (fibres_check o.fibres) _ e is) ∙ past_row
-
         module _ (column : ℕ) (in_column : column_checked o.fibres ≡ Ok column) where
           -- what the four checks let through
           let_through : place_of m o ≡ record { basis = b; row = row; column = column }
@@ -61,9 +58,6 @@ module _ (m : Meaning) (o : Order) where
                 column_limit = limits.column_limit o.fibres (not-false (within 1 o.fibres 6) (passed (fibres_check o.fibres) (o.fibres - 1) column in_column).0);
               } in
               subst PlaceLimits let_through inside
-
-      pub by_row : (e : Refusal) → row_checked o.metres ≡ Err e → Err e ≡ placed m o
-      by_row e is = first_here (metres_check o.metres) from_column (place_of m o) e (held (metres_check o.metres) _ e is) ∙ past_basis
 
     pub by_basis : (e : Refusal) → basis_checked m o ≡ Err e → Err e ≡ placed m o
     by_basis e is = first_here (coefficient_check m o) from_row (place_of m o) e (held (coefficient_check m o) _ e is) ∙ past_dates

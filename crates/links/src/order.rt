@@ -10,7 +10,8 @@ pub struct Order {
     pub fibres: u32,
 }
 
-// Whether the network was built for the order, or the PM was in service before it.
+// Whether the network was built for the order, or the PM was in service before it: the shape of an
+// Option<Coefficient>, whose None would not say what its absence means, nor have a text of its own.
 #[derive(Clone, Copy)]
 pub enum Basis {
     AbInitio,

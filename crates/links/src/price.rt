@@ -3,7 +3,7 @@ ghost use Rattle.std.specs.Prelude.{◌≡◌, ◌≤◌, IfOk};
 ghost use Rattle.links.specs.Quotations.{dates_checked, basis_checked, placed, PlaceLimits, BasisLimits, price_on, link_at, fibre_at, link_quotation, fibre_quotation};
 
 use crate::order::{Basis, Order, Place, Quotation};
-use crate::tables::{column_of, extra_price, initial_price, reference_price, row_of};
+use crate::tables::{EXTRA, INITIAL, REFERENCE, column_of, price_at, row_of};
 use calendar::is_date;
 use refusal::Refusal;
 use tariff::quotient::Quotient;
@@ -41,13 +41,10 @@ fn place_of<T: Tariff>(sheet: &T, order: &Order) -> Result<Place, Refusal>
 fn check_dates(order: &Order) -> Result<(), Refusal>
     ensures answer { result ≡ dates_checked order.now }
 {
-    if !is_date(order.ordered) {
+    if !is_date(order.ordered) || order.service.is_some_and(|service| !is_date(service)) {
         return Err(Refusal::NoDate);
     }
-    match order.service {
-        Some(service) if !is_date(service) => Err(Refusal::NoDate),
-        _ => Ok(()),
-    }
+    Ok(())
 }
 
 // Whether an order is ab initio, or by which coefficient it is ex post.
@@ -56,10 +53,8 @@ fn basis_of<T: Tariff>(sheet: &T, order: &Order) -> Result<Basis, Refusal>
 {
     match order.service {
         Some(service) if service < order.ordered => {
-            let Some(coefficient) = sheet.coefficient(service, order.ordered) else {
-                return Err(Refusal::NoCoefficient);
-            };
-            Ok(Basis::ExPost(coefficient))
+            let coefficient = sheet.coefficient(service, order.ordered);
+            Ok(Basis::ExPost(coefficient.ok_or(Refusal::NoCoefficient)?))
         }
         _ => Ok(Basis::AbInitio),
     }
@@ -73,8 +68,8 @@ fn link_at<T: Tariff>(sheet: &T, place: Place) -> Quotation
     let price = price_on(
         sheet,
         basis,
-        initial_price(row, column),
-        reference_price(row, column),
+        price_at(&INITIAL, row, column),
+        price_at(&REFERENCE, row, column),
     );
     Quotation { basis, price }
 }
@@ -84,7 +79,7 @@ fn fibre_at<T: Tariff>(sheet: &T, place: Place) -> Quotation
     ensures value { result ≡ fibre_at (T.meaning sheet.now) place }
 {
     let Place { basis, row, column } = place;
-    let extra = extra_price(row, column.min(4));
+    let extra = price_at(&EXTRA, row, column.min(4));
     let price = price_on(sheet, basis, extra, extra);
     Quotation { basis, price }
 }

@@ -1,14 +1,19 @@
 // The price tables of links, by the link's length and its fibres.
 ghost use Rattle.std.specs.Prelude.{◌≡◌, ◌<◌};
-ghost use Rattle.links.specs.Tables.{row_checked, column_checked, initial, reference, extra, price_at};
+ghost use Rattle.links.specs.Tables.{row_checked, column_checked, price_at};
 
 use refusal::Refusal;
 
 // Micro-euros in a euro.
 const EURO: u64 = 1_000_000;
 
+// The length in metres up to which each row goes.
+const ROW_ENDS: [u32; 9] = [
+    1_000, 2_000, 4_000, 6_000, 8_000, 10_000, 12_000, 14_000, 16_000,
+];
+
 // A link ordered ab initio, in euros: a row for each length, a column for each of 1 to 6 fibres.
-const INITIAL: [[u32; 6]; 9] = [
+pub(crate) const INITIAL: [[u32; 6]; 9] = [
     [1671, 3090, 3921, 4420, 4753, 4986],
     [1780, 3291, 4176, 4708, 5062, 5310],
     [1997, 3693, 4687, 5283, 5681, 5959],
@@ -21,7 +26,7 @@ const INITIAL: [[u32; 6]; 9] = [
 ];
 
 // A link's reference price, which the ex post coefficient multiplies.
-const REFERENCE: [[u32; 6]; 9] = [
+pub(crate) const REFERENCE: [[u32; 6]; 9] = [
     [1671, 3216, 4523, 5628, 6578, 7409],
     [1780, 3425, 4817, 5994, 7006, 7891],
     [1997, 3844, 5406, 6727, 7863, 8856],
@@ -34,7 +39,7 @@ const REFERENCE: [[u32; 6]; 9] = [
 ];
 
 // An extra fibre on a link, by the fibres first ordered: 1, 2, 3, 4, then five and more alike.
-const EXTRA: [[u32; 5]; 9] = [
+pub(crate) const EXTRA: [[u32; 5]; 9] = [
     [1545, 1307, 1105, 951, 831],
     [1645, 1392, 1177, 1012, 885],
     [1847, 1562, 1321, 1136, 993],
@@ -46,22 +51,15 @@ const EXTRA: [[u32; 5]; 9] = [
     [3455, 2924, 2472, 2126, 1859],
 ];
 
-// The row of a length: up to 1,000 metres the first, up to 16,000 the ninth and last.
-pub(crate) const fn row_of(metres: u32) -> Result<usize, Refusal>
+// The row of a length: the first whose end it does not pass.
+pub(crate) fn row_of(metres: u32) -> Result<usize, Refusal>
     ensures answer { result ≡ row_checked metres }
 {
-    match metres {
-        1..=1_000 => Ok(0),
-        1_001..=2_000 => Ok(1),
-        2_001..=4_000 => Ok(2),
-        4_001..=6_000 => Ok(3),
-        6_001..=8_000 => Ok(4),
-        8_001..=10_000 => Ok(5),
-        10_001..=12_000 => Ok(6),
-        12_001..=14_000 => Ok(7),
-        14_001..=16_000 => Ok(8),
-        _ => Err(Refusal::MetresOutOfRange),
+    if metres == 0 {
+        return Err(Refusal::MetresOutOfRange);
     }
+    let row = ROW_ENDS.iter().position(|end| metres <= *end);
+    row.ok_or(Refusal::MetresOutOfRange)
 }
 
 // The column of a number of fibres.
@@ -74,26 +72,10 @@ pub(crate) const fn column_of(fibres: u32) -> Result<usize, Refusal>
     }
 }
 
-// What a link costs ab initio, in micro-euros.
-pub(crate) fn initial_price(row: usize, column: usize) -> u64
-    requires { (row < 9) × (column < 6) }
-    ensures value { result ≡ price_at initial row column }
+// What a table has in a row and column, both counted from 0, in micro-euros.
+pub(crate) fn price_at<const N: usize>(table: &[[u32; N]; 9], row: usize, column: usize) -> u64
+    requires { (row < 9) × (column < N) }
+    ensures value { result ≡ price_at table.now row column }
 {
-    u64::from(INITIAL[row][column]) * EURO
-}
-
-// A link's reference price, in micro-euros.
-pub(crate) fn reference_price(row: usize, column: usize) -> u64
-    requires { (row < 9) × (column < 6) }
-    ensures value { result ≡ price_at reference row column }
-{
-    u64::from(REFERENCE[row][column]) * EURO
-}
-
-// What an extra fibre costs, in micro-euros.
-pub(crate) fn extra_price(row: usize, column: usize) -> u64
-    requires { (row < 9) × (column < 5) }
-    ensures value { result ≡ price_at extra row column }
-{
-    u64::from(EXTRA[row][column]) * EURO
+    u64::from(table[row][column]) * EURO
 }

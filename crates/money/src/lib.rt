@@ -38,15 +38,7 @@ impl fmt::Display for Money {
 
     fn fmt<W: fmt::Write>(&self, f: &mut fmt::Formatter<W>) -> fmt::Result {
         let euros = self.micros / EURO;
-        let tenths = self.micros / 100_000 % 10;
-        let hundredths = self.micros / 10_000 % 10;
-        let third = self.micros / 1_000 % 10;
-        let fourth = self.micros / 100 % 10;
-        let fifth = self.micros / 10 % 10;
-        let sixth = self.micros % 10;
-        write!(
-            f,
-            "{euros}.{tenths}{hundredths}{third}{fourth}{fifth}{sixth}"
-        )
+        let decimals = self.micros % EURO;
+        write!(f, "{euros}.{decimals:06}")
     }
 }

@@ -5,7 +5,7 @@ ghost use Rattle.money.specs.Signs.{apart, below_zero, signed_text, SignTold};
 use crate::Money;
 use std::fmt;
 
-// An amount, and whether it is below zero.
+// An amount, and whether it is below zero: both are always there, as in its text, which is a sign and an amount's text.
 #[derive(Clone, Copy)]
 pub struct SignedMoney {
     negative: bool,

@@ -2,7 +2,7 @@
 --   keyword_named  what the first word announces
 --   said_after     what the words after it say
 --   line_in        the whole; a line with no word, or that begins with #, says nothing
-use Rattle.std.specs.Prelude.{ℕ, Bool, cond, ◌||◌, List, Ok, Err, codes, Result, ◌==◌, slice_index}
+use Rattle.std.specs.Prelude.{ℕ, Bool, cond, ◌||◌, List, Some, None, Ok, Err, codes, Option, Result, ◌==◌, slice_index}
 use Rattle.std.specs.Str.{bytes_eq}
 use Rattle.quote_lines.specs.Words.{word, after_word}
 use Rattle.quote_lines.specs.Fields.{Fields, then_do, empty, fields_in, order_in, choice_in, index_in, record_in}
@@ -41,7 +41,7 @@ said_after Price f = then_do (record_in f) (λ row. Ok (line.Record row))
 abbrev pub comment : List ℕ → Bool
 comment first = empty first || slice_index first 0 == 35
 
-abbrev pub line_in : List ℕ → Result Line Unreadable
+abbrev pub line_in : List ℕ → Result (Option Line) Unreadable
 line_in bytes =
-    cond (comment (word bytes)) (Ok line.Nothing)
-    (then_do (keyword_named (word bytes)) (λ announced. said_after announced (fields_in (after_word bytes))))
+    cond (comment (word bytes)) (Ok None)
+    (then_do (keyword_named (word bytes)) (λ announced. then_do (said_after announced (fields_in (after_word bytes))) (λ said. Ok (Some said))))

@@ -12,9 +12,6 @@ use Rattle.calendar.specs.Days.{within}
 abbrev pub blank : ℕ → Bool
 blank b = b == 32 || (b == 9 || b == 13)
 
-abbrev pub blank_as : Bool → ℕ → Bool
-blank_as blanks b = cond blanks (blank b) (not (blank b))
-
 abbrev pub after_blanks : List ℕ → List ℕ
 after_blanks line = drop (prefix_len blank line) line
 

@@ -1,7 +1,6 @@
 // The words of a line after its first, and what they say of an order, a sheet, an index or a price record.
 ghost use Rattle.std.specs.Prelude.{◌≡◌};
-ghost use Rattle.std.specs.Str.{bytes_eq};
-ghost use Rattle.quote_lines.specs.Fields.{fields_of, fields_in, fills, number_named, amount_named, service_named, order_in, choice_named, choice_in, index_in, record_in};
+ghost use Rattle.quote_lines.specs.Fields.{fields_of, fields_in, fills, number_named, amount_named, service_named, order_in, choice_in, index_in, record_in};
 
 use crate::line::{Choice, Unreadable};
 use crate::number::{amount_in, number_in};
@@ -37,12 +36,6 @@ pub(crate) fn fields_in(line: &[u8]) -> Fields<'_>
     }
 }
 
-pub(crate) fn is_text(word: &[u8], text: &[u8]) -> bool
-    ensures value { result ≡ bytes_eq word.now text.now }
-{
-    word == text
-}
-
 // Whether the line has a word, and not the one after the last that it may have.
 fn fills(last: &[u8], beyond: &[u8]) -> bool
     ensures value { result ≡ fills last.now beyond.now }
@@ -69,22 +62,7 @@ fn service_named(word: &[u8]) -> Result<Option<u32>, Unreadable>
     if word.is_empty() {
         return Ok(None);
     }
-    let service = number_named(word)?;
-    Ok(Some(service))
-}
-
-fn choice_named(word: &[u8]) -> Result<Choice, Unreadable>
-    ensures value { result ≡ choice_named word.now }
-{
-    if is_text(word, b"flat") {
-        Ok(Choice::Flat)
-    } else if is_text(word, b"indexed") {
-        Ok(Choice::Indexed)
-    } else if is_text(word, b"dated") {
-        Ok(Choice::Dated)
-    } else {
-        Err(Unreadable::UnknownSheet)
-    }
+    Ok(Some(number_named(word)?))
 }
 
 pub(crate) fn order_in(line: &[u8]) -> Result<Order, Unreadable>
@@ -113,7 +91,7 @@ pub(crate) fn choice_in(line: &[u8]) -> Result<Choice, Unreadable>
     if !fills(fields.one, fields.two) {
         return Err(Unreadable::WordCount);
     }
-    choice_named(fields.one)
+    Choice::try_from(fields.one)
 }
 
 pub(crate) fn index_in(line: &[u8]) -> Result<Dated<IndexNumber>, Unreadable>

@@ -1,5 +1,6 @@
 // What a line says, and why a line cannot be read.
 ghost use Rattle.std.specs.Prelude.{◌≡◌, Some};
+ghost use Rattle.quote_lines.specs.Fields.{choice_named};
 ghost use Rattle.quote_lines.specs.LineTexts.{item_text, reason_text};
 
 use links::order::Order;
@@ -29,10 +30,9 @@ pub enum Choice {
     Dated,
 }
 
-// What a line says: nothing, an order, which sheet to use, or one more row of a series.
+// What a line says: an order, which sheet to use, or one more row of a series.
 #[derive(Clone, Copy)]
 pub enum Line {
-    Nothing,
     Asks(Request),
     Chooses(Choice),
     Wages(Dated<IndexNumber>),
@@ -48,6 +48,22 @@ pub enum Unreadable {
     NoNumber,
     NoAmount,
     UnknownSheet,
+}
+
+// The sheet that a word names.
+impl TryFrom<&[u8]> for Choice {
+    type Error = Unreadable;
+
+    ghost try_from_gives = { λ word result. result ≡ choice_named word.now };
+
+    fn try_from(word: &[u8]) -> Result<Choice, Unreadable> {
+        match word {
+            b"flat" => Ok(Choice::Flat),
+            b"indexed" => Ok(Choice::Indexed),
+            b"dated" => Ok(Choice::Dated),
+            _ => Err(Unreadable::UnknownSheet),
+        }
+    }
 }
 
 impl Unreadable {

@@ -3,7 +3,7 @@ ghost use Rattle.std.specs.Prelude.{◌≡◌};
 ghost use Rattle.quote_lines.specs.Fields.{fields_in};
 ghost use Rattle.quote_lines.specs.Lines.{keyword_named, asked, said_after, comment, line_in};
 
-use crate::fields::{choice_in, index_in, is_text, order_in, record_in};
+use crate::fields::{choice_in, index_in, order_in, record_in};
 use crate::line::{Item, Line, Request, Unreadable};
 use crate::words::cut_word;
 
@@ -18,46 +18,41 @@ enum Keyword {
     Price,
 }
 
+impl TryFrom<&[u8]> for Keyword {
+    type Error = Unreadable;
+
+    ghost try_from_gives = { λ word result. result ≡ keyword_named word.now };
+
+    fn try_from(word: &[u8]) -> Result<Keyword, Unreadable> {
+        match word {
+            b"link" => Ok(Keyword::Link),
+            b"fibre" => Ok(Keyword::Fibre),
+            b"sheet" => Ok(Keyword::Sheet),
+            b"wages" => Ok(Keyword::Wages),
+            b"consumer" => Ok(Keyword::Consumer),
+            b"price" => Ok(Keyword::Price),
+            _ => Err(Unreadable::UnknownWord),
+        }
+    }
+}
+
 // What a line says: nothing if it is blank or begins with a number sign.
-pub fn line_in(bytes: &[u8]) -> Result<Line, Unreadable>
+pub fn line_in(bytes: &[u8]) -> Result<Option<Line>, Unreadable>
     ensures value { result ≡ line_in bytes.now }
 {
     let (first, rest) = cut_word(bytes);
     if is_comment(first) {
-        return Ok(Line::Nothing);
+        return Ok(None);
     }
-    let announced = keyword_named(first)?;
-    said_after(announced, rest)
+    let announced = Keyword::try_from(first)?;
+    Ok(Some(said_after(announced, rest)?))
 }
 
 // Whether a first word leaves a line without content: there is none, or it begins with a number sign.
 fn is_comment(first: &[u8]) -> bool
     ensures value { result ≡ comment first.now }
 {
-    match first {
-        [] | [b'#', ..] => true,
-        _ => false,
-    }
-}
-
-fn keyword_named(word: &[u8]) -> Result<Keyword, Unreadable>
-    ensures value { result ≡ keyword_named word.now }
-{
-    if is_text(word, b"link") {
-        Ok(Keyword::Link)
-    } else if is_text(word, b"fibre") {
-        Ok(Keyword::Fibre)
-    } else if is_text(word, b"sheet") {
-        Ok(Keyword::Sheet)
-    } else if is_text(word, b"wages") {
-        Ok(Keyword::Wages)
-    } else if is_text(word, b"consumer") {
-        Ok(Keyword::Consumer)
-    } else if is_text(word, b"price") {
-        Ok(Keyword::Price)
-    } else {
-        Err(Unreadable::UnknownWord)
-    }
+    matches!(first, [] | [b'#', ..])
 }
 
 // What the words after a keyword say.

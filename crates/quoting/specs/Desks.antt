@@ -87,36 +87,36 @@ abbrev pub answer_of : Request → Result Quotation Refusal → Answer
 answer_of request (Ok quotation) = Priced request quotation
 answer_of request (Err refusal) = Refused request refusal
 
-abbrev pub answer_for : State → Result Line Unreadable → Option Answer
-answer_for s (Ok line.Nothing) = None
-answer_for s (Ok (line.Asks request)) = Some (answer_of request (quotation_on s request))
-answer_for s (Ok (line.Chooses sheet)) = None
-answer_for s (Ok (line.Wages row)) = None
-answer_for s (Ok (line.Consumer row)) = None
-answer_for s (Ok (line.Record row)) = None
+abbrev pub answer_for : State → Result (Option Line) Unreadable → Option Answer
+answer_for s (Ok None) = None
+answer_for s (Ok (Some (line.Asks request))) = Some (answer_of request (quotation_on s request))
+answer_for s (Ok (Some (line.Chooses sheet))) = None
+answer_for s (Ok (Some (line.Wages row))) = None
+answer_for s (Ok (Some (line.Consumer row))) = None
+answer_for s (Ok (Some (line.Record row))) = None
 answer_for s (Err reason) = Some (Unread reason)
 
 abbrev pub answer_to : State → List ℕ → Option Answer
 answer_to s bytes = answer_for s (line_in bytes)
 
-abbrev pub after_reading : State → Result Line Unreadable → State
-after_reading s (Ok line.Nothing) = s
-after_reading s (Ok (line.Asks request)) = s
-after_reading s (Ok (line.Chooses sheet)) = record { choice = sheet; wages = s.wages; consumer = s.consumer; records = s.records }
-after_reading s (Ok (line.Wages row)) = record { choice = s.choice; wages = s.wages ++ (row ∷ []); consumer = s.consumer; records = s.records }
-after_reading s (Ok (line.Consumer row)) = record { choice = s.choice; wages = s.wages; consumer = s.consumer ++ (row ∷ []); records = s.records }
-after_reading s (Ok (line.Record row)) = record { choice = s.choice; wages = s.wages; consumer = s.consumer; records = s.records ++ (row ∷ []) }
+abbrev pub after_reading : State → Result (Option Line) Unreadable → State
+after_reading s (Ok None) = s
+after_reading s (Ok (Some (line.Asks request))) = s
+after_reading s (Ok (Some (line.Chooses sheet))) = record { choice = sheet; wages = s.wages; consumer = s.consumer; records = s.records }
+after_reading s (Ok (Some (line.Wages row))) = record { choice = s.choice; wages = s.wages ++ (row ∷ []); consumer = s.consumer; records = s.records }
+after_reading s (Ok (Some (line.Consumer row))) = record { choice = s.choice; wages = s.wages; consumer = s.consumer ++ (row ∷ []); records = s.records }
+after_reading s (Ok (Some (line.Record row))) = record { choice = s.choice; wages = s.wages; consumer = s.consumer; records = s.records ++ (row ∷ []) }
 after_reading s (Err reason) = s
 
 abbrev pub after : State → List ℕ → State
 after s bytes = after_reading s (line_in bytes)
 
 -- A line that adds a row to a series, which wants memory.
-abbrev pub AddsRow : Result Line Unreadable → Type 0
-AddsRow (Ok line.Nothing) = ⊥
-AddsRow (Ok (line.Asks request)) = ⊥
-AddsRow (Ok (line.Chooses sheet)) = ⊥
-AddsRow (Ok (line.Wages row)) = Unit {0}
-AddsRow (Ok (line.Consumer row)) = Unit {0}
-AddsRow (Ok (line.Record row)) = Unit {0}
+abbrev pub AddsRow : Result (Option Line) Unreadable → Type 0
+AddsRow (Ok None) = ⊥
+AddsRow (Ok (Some (line.Asks request))) = ⊥
+AddsRow (Ok (Some (line.Chooses sheet))) = ⊥
+AddsRow (Ok (Some (line.Wages row))) = Unit {0}
+AddsRow (Ok (Some (line.Consumer row))) = Unit {0}
+AddsRow (Ok (Some (line.Record row))) = Unit {0}
 AddsRow (Err reason) = ⊥

@@ -7,13 +7,12 @@ use std::io::{BufRead, BufReader};
 // Brings each line of standard input to a desk, and prints its answers.
 pub fn run(rt: &HostRuntime) -> io::Result<()> {
     let mut desk = Desk::new(rt.alloc());
-    let mut number = 0u64;
-    for bytes in BufReader::new(rt.alloc(), rt.stdin())?.split(rt.alloc(), b'\n') {
+    let lines = BufReader::new(rt.alloc(), rt.stdin())?.split(rt.alloc(), b'\n');
+    for (above, bytes) in lines.enumerate() {
         let bytes = bytes?;
-        number = number.saturating_add(1);
         if let Some(answer) = desk.take(bytes.as_slice())? {
             let reply = Reply {
-                line: number,
+                line: (above as u64).saturating_add(1),
                 answer,
             };
             println!(rt; "{reply}")?;

@@ -11,7 +11,7 @@ use quote_lines::line::{Choice, Item, Line, Request};
 use quote_lines::read::line_in;
 use refusal::Refusal;
 use series::{Dated, IndexNumber};
-use sheet_parts::given::{Prices, Terms};
+use sheet_parts::given::{Prices, Terms, YEAR_INDICES};
 use sheets::dated::DatedSheet;
 use sheets::flat::FlatSheet;
 use sheets::indexed::IndexedSheet;
@@ -28,7 +28,7 @@ const PRICES: Prices = Prices {
 // A contribution of 15 hundredths, and tranches that weigh alike.
 const TERMS: Terms = Terms {
     contribution: 15,
-    weights: [100; 41],
+    weights: [100; YEAR_INDICES],
 };
 
 impl Desk {
@@ -52,21 +52,21 @@ impl Desk {
         ensures kept { MatchResult result (λ a. is_some a ≡ true → shown self.new ≡ shown self.old) (λ _. (shown self.new ≡ shown self.old) × AddsRow (line_in bytes.now)) }
     {
         match line_in(bytes) {
-            Ok(Line::Nothing) => Ok(None),
-            Ok(Line::Asks(request)) => Ok(Some(self.answer(request))),
-            Ok(Line::Chooses(sheet)) => {
+            Ok(None) => Ok(None),
+            Ok(Some(Line::Asks(request))) => Ok(Some(self.answer(request))),
+            Ok(Some(Line::Chooses(sheet))) => {
                 self.choice = sheet;
                 Ok(None)
             }
-            Ok(Line::Wages(row)) => {
+            Ok(Some(Line::Wages(row))) => {
                 self.wages.push(row)?;
                 Ok(None)
             }
-            Ok(Line::Consumer(row)) => {
+            Ok(Some(Line::Consumer(row))) => {
                 self.consumer.push(row)?;
                 Ok(None)
             }
-            Ok(Line::Record(row)) => {
+            Ok(Some(Line::Record(row))) => {
                 self.records.push(row)?;
                 Ok(None)
             }

@@ -1,5 +1,3 @@
-pub mod Judging
 pub mod Order
-pub mod Halving
 pub mod Last
 pub mod Steady

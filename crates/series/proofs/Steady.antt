@@ -6,6 +6,7 @@ use Rattle.std.proofs.lemmas.Bool.{le-leb, lt-leb, lt-ltb, le-ltb}
 use Rattle.series.specs.declared.rows.Dated.{Dated}
 use Rattle.series.specs.Rows.{rising}
 use Rattle.series.specs.Lookups.{or_else, last_value, in_force_on, in_force_before}
+use Rattle.series.specs.Found.{KeepsLimits, kept_found}
 use Rattle.series.specs.Laws.{newest, SteadyOn, SteadyBefore, OwnDayOn, OwnDayBefore}
 use Rattle.series.proofs.Order.{head_rises, tail_rises}
 
@@ -68,16 +69,18 @@ module _ {V : Type 0} (rows : List (Dated V)) (up : rising rows ≡ true) (day :
   from_split : (above below : List (Dated V)) → rows ≡ above ++ below → rising (above ++ below) ≡ true
   from_split above below split = ap rising (sym split) ∙ up
 
-  pub steady_on : SteadyOn rows day (in_force_on rows day)
-  steady_on above below row next split from until =
+  pub steady_on : (answer : Option V) → answer ≡ in_force_on rows day → SteadyOn rows day answer
+  steady_on answer found above below row next split from until =
       let rest = tail_rises row (next ∷ below) (below_rises above (row ∷ (next ∷ below)) (from_split above (row ∷ (next ∷ below)) split)) in
-      settles (λ date. leb date day) rows above (next ∷ below) row split (le-leb row.date day from)
+      found
+      ∙ settles (λ date. leb date day) rows above (next ∷ below) row split (le-leb row.date day from)
       (none_from (λ date. leb date day) next.date (λ date h. lt-leb date day (omega arith)) next below rest (omega arith))
 
-  pub steady_before : SteadyBefore rows day (in_force_before rows day)
-  steady_before above below row next split from until =
+  pub steady_before : (answer : Option V) → answer ≡ in_force_before rows day → SteadyBefore rows day answer
+  steady_before answer found above below row next split from until =
       let rest = tail_rises row (next ∷ below) (below_rises above (row ∷ (next ∷ below)) (from_split above (row ∷ (next ∷ below)) split)) in
-      settles (λ date. ltb date day) rows above (next ∷ below) row split (lt-ltb row.date day from)
+      found
+      ∙ settles (λ date. ltb date day) rows above (next ∷ below) row split (lt-ltb row.date day from)
       (none_from (λ date. ltb date day) day (λ date h. le-ltb date day h) next below rest until)
 
   none_after : (row : Dated V) (below : List (Dated V)) → rising (row ∷ below) ≡ true → row.date ≡ day → last_value (λ date. leb date day) below ≡ None
@@ -86,15 +89,21 @@ module _ {V : Type 0} (rows : List (Dated V)) (up : rising rows ≡ true) (day :
       let later = head_rises row next below rest in
       none_from (λ date. leb date day) next.date (λ date h. lt-leb date day (omega arith)) next below (tail_rises row (next ∷ below) rest) (omega arith)
 
-  pub own_day_on : OwnDayOn rows day (in_force_on rows day)
-  own_day_on above below row split same =
-      settles (λ date. leb date day) rows above below row split (le-leb row.date day (omega arith))
+  pub own_day_on : (answer : Option V) → answer ≡ in_force_on rows day → OwnDayOn rows day answer
+  own_day_on answer found above below row split same =
+      found
+      ∙ settles (λ date. leb date day) rows above below row split (le-leb row.date day (omega arith))
       (none_after row below (below_rises above (row ∷ below) (from_split above (row ∷ below) split)) same)
 
-  pub own_day_before : OwnDayBefore rows day (in_force_before rows day)
-  own_day_before above below row split same =
+  pub own_day_before : (answer : Option V) → answer ≡ in_force_before rows day → OwnDayBefore rows day answer
+  own_day_before answer found above below row split same =
       let whole = from_split above (row ∷ below) split in
-      ap (last_value (λ date. ltb date day)) split
+      found
+      ∙ ap (last_value (λ date. ltb date day)) split
       ∙ last_append (λ date. ltb date day) above (row ∷ below)
       ∙ ap (λ o. or_else o (last_value (λ date. ltb date day) above)) (none_from (λ date. ltb date day) day (λ date h. le-ltb date day h) row below (below_rises above (row ∷ below) whole) (omega arith))
       ∙ all_newest (λ date. ltb date day) above (All-weaker (λ (a : Dated V). a.date < row.date) (λ a. ltb a.date day ≡ true) (λ a h. lt-ltb a.date day (omega arith)) above (above_earlier above below row whole))
+
+-- what every value of the rows keeps, the answer keeps
+pub keeps_found : {V : Type 0} (passes : ℕ → Bool) (rows : List (Dated V)) (answer : Option V) → answer ≡ last_value passes rows → KeepsLimits rows answer
+keeps_found passes rows answer found fits all = rw found (kept_found fits passes rows all)

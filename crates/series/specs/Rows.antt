@@ -3,8 +3,8 @@
 --   rising         every date is later than the one before it
 --   within_limits  every value keeps the limits of its kind
 --   sound          the rows make a series
---   may_follow     a row may come next, after a date
 use Rattle.std.specs.Prelude.{ℕ, Bool, true, ◌&&◌, List, [], ◌∷◌, length, nat_le, nat_lt}
+use Rattle.std.specs.List.{list_all}
 use Rattle.calendar.specs.Days.{is_date}
 use Rattle.series.specs.declared.rows.Dated.{Dated}
 
@@ -14,8 +14,7 @@ most_rows = 512
 
 -- Every date is a calendar day.
 abbrev pub real : {V : Type 0} → List (Dated V) → Bool
-real [] = true
-real (row ∷ rows) = is_date row.date && real rows
+real rows = list_all (λ row. is_date row.date) rows
 
 -- Every date is later than the one before it.
 abbrev pub rising : {V : Type 0} → List (Dated V) → Bool
@@ -25,13 +24,8 @@ rising (row ∷ (next ∷ rows)) = nat_lt row.date next.date && rising (next ∷
 
 -- Every value keeps the limits of its kind.
 abbrev pub within_limits : {V : Type 0} → (V → Bool) → List (Dated V) → Bool
-within_limits fits [] = true
-within_limits fits (row ∷ rows) = fits row.value && within_limits fits rows
+within_limits fits rows = list_all (λ row. fits row.value) rows
 
 -- Rows make a series if there are not too many, their dates are real and rise, and their values keep their limits.
 abbrev pub sound : {V : Type 0} → (V → Bool) → List (Dated V) → Bool
 sound fits rows = nat_le (length rows) most_rows && (real rows && (rising rows && within_limits fits rows))
-
--- A row may follow a date if it is dated a later, real day and its value keeps its limits.
-abbrev pub may_follow : {V : Type 0} → (V → Bool) → ℕ → Dated V → Bool
-may_follow fits last row = is_date row.date && (nat_lt last row.date && fits row.value)

@@ -1,7 +1,7 @@
 // Filling a series, which is the only place where rows are judged.
 ghost use Rattle.std.specs.Prelude.{◌≡◌, true, false, ◌&&◌, [], MatchResult, OnErr, OnOk};
 ghost use Rattle.refusal.specs.declared.Refusal.TheVariants.{BadSheet};
-ghost use Rattle.series.specs.Rows.{real, rising, within_limits, sound, may_follow};
+ghost use Rattle.series.specs.Rows.{real, rising, within_limits, sound};
 ghost use Rattle.series.specs.Lent.{rows_of};
 
 use crate::lent::Series;
@@ -22,7 +22,8 @@ impl<'a, V> Series<'a, V> {
 }
 
 impl<'a, V: Limited> Series<'a, V> {
-    // Takes the rows if they make a series; otherwise refuses and stays as it was.
+    // Takes the rows if they make a series; otherwise refuses and stays as it was. A place is filled, and no series
+    // returned, since the checker has no form yet for an enum that holds a reference and an invariant.
     pub fn fill(&mut self, rows: &'a [Dated<V>]) -> Result<(), Refusal>
         ensures answer { MatchResult result (λ _. sound V.Limited.fits rows.now ≡ true) (λ e. (e ≡ BadSheet) × (sound V.Limited.fits rows.now ≡ false)) }
         ensures value { OnOk result (rows_of self.new ≡ rows.now) }
@@ -40,26 +41,26 @@ impl<'a, V: Limited> Series<'a, V> {
 fn are_sound<V: Limited>(rows: &[Dated<V>]) -> bool
     ensures value { result ≡ sound V.Limited.fits rows.now }
 {
-    rows.len() <= MOST_ROWS && all_follow(rows)
+    rows.len() <= MOST_ROWS && are_real(rows) && rise(rows) && keep_limits(rows)
 }
 
-// Whether every row may come after the one above it. No day is numbered 0, so the first may come after 0.
-fn all_follow<V: Limited>(rows: &[Dated<V>]) -> bool
-    ensures value { result ≡ (real rows.now && (rising rows.now && within_limits V.Limited.fits rows.now)) }
+// Whether every date is a calendar day.
+fn are_real<V>(rows: &[Dated<V>]) -> bool
+    ensures value { result ≡ real rows.now }
 {
-    let mut last = 0;
-    for row in rows {
-        if !may_follow(last, row) {
-            return false;
-        }
-        last = row.date;
-    }
-    true
+    rows.iter().all(|row| is_date(row.date))
 }
 
-// Whether a row may come next: on a real day, later than the last, with a value within its limits.
-fn may_follow<V: Limited>(last: u32, row: &Dated<V>) -> bool
-    ensures value { result ≡ may_follow V.Limited.fits last row.now }
+// Whether every date is later than the one before it.
+fn rise<V>(rows: &[Dated<V>]) -> bool
+    ensures value { result ≡ rising rows.now }
 {
-    is_date(row.date) && last < row.date && row.value.in_limits()
+    rows.is_sorted_by(|row, next| row.date < next.date)
+}
+
+// Whether every value keeps the limits of its kind.
+fn keep_limits<V: Limited>(rows: &[Dated<V>]) -> bool
+    ensures value { result ≡ within_limits V.Limited.fits rows.now }
+{
+    rows.iter().all(|row| row.value.in_limits())
 }

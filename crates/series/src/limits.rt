@@ -22,6 +22,6 @@ impl Limited for IndexNumber {
     ghost fits = { index_fits };
 
     fn in_limits(&self) -> bool {
-        LEAST_INDEX <= self.0 && self.0 <= MOST_INDEX
+        (LEAST_INDEX..=MOST_INDEX).contains(&self.0)
     }
 }

@@ -1,6 +1,6 @@
 // What is in force on a day, and what was in force before it.
 ghost use Rattle.std.specs.Prelude.{◌≡◌, ◌<◌, ◌≤◌, length};
-ghost use Rattle.std.specs.List.{AllWithin};
+ghost use Rattle.std.specs.List.Sorted.{IsPartitionPoint};
 ghost use Rattle.series.specs.Found.{KeepsLimits};
 ghost use Rattle.series.specs.Laws.{SteadyOn, SteadyBefore, OwnDayOn, OwnDayBefore};
 ghost use Rattle.series.specs.Lent.{rows_of};
@@ -16,7 +16,8 @@ impl<'a, V: Copy> Series<'a, V> {
         ensures own { OwnDayOn (rows_of self.now) day result }
         ensures limits { KeepsLimits (rows_of self.now) result }
     {
-        self.last_on(day)
+        // Dated up to a day is dated below the next number.
+        self.last_below(u64::from(day) + 1)
     }
 
     // The last value dated earlier than a day.
@@ -26,20 +27,6 @@ impl<'a, V: Copy> Series<'a, V> {
         ensures own { OwnDayBefore (rows_of self.now) day result }
         ensures limits { KeepsLimits (rows_of self.now) result }
     {
-        self.last_before(day)
-    }
-
-    // Dated up to a day is dated below the next number.
-    fn last_on(&self, day: u32) -> Option<V>
-        ensures value { result ≡ in_force_on (rows_of self.now) day }
-    {
-        self.last_below(u64::from(day) + 1)
-    }
-
-    // Dated earlier than a day is dated below its number.
-    fn last_before(&self, day: u32) -> Option<V>
-        ensures value { result ≡ in_force_before (rows_of self.now) day }
-    {
         self.last_below(u64::from(day))
     }
 
@@ -47,32 +34,18 @@ impl<'a, V: Copy> Series<'a, V> {
     fn last_below(&self, number: u64) -> Option<V>
         ensures value { result ≡ in_force_before (rows_of self.now) number }
     {
-        let count = self.rows_below(number);
-        if count == 0 {
-            None
-        } else {
-            Some(self.rows[count - 1].value)
-        }
+        let last = self.rows_below(number).checked_sub(1)?;
+        Some(self.rows[last].value)
     }
 }
 
 impl<'a, V> Series<'a, V> {
-    // How many rows are dated below a number, by halving what is left to look at.
+    // How many rows are dated below a number. The library halves what is left to look at.
     fn rows_below(&self, number: u64) -> usize
         ensures within { result ≤ length (rows_of self.now) }
-        ensures earlier { AllWithin (λ row. row.date < number) (rows_of self.now) 0 result }
-        ensures later { AllWithin (λ row. number ≤ row.date) (rows_of self.now) result (length (rows_of self.now)) }
+        ensures parted { IsPartitionPoint (λ row. row.date < number) (λ row. number ≤ row.date) (rows_of self.now) result }
     {
-        let mut low = 0;
-        let mut high = self.rows.len();
-        while low < high {
-            let middle = low + (high - low) / 2;
-            if u64::from(self.rows[middle].date) < number {
-                low = middle + 1;
-            } else {
-                high = middle;
-            }
-        }
-        low
+        self.rows
+            .partition_point(|row| u64::from(row.date) < number)
     }
 }

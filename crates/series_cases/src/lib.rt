@@ -43,30 +43,22 @@ mod tests {
         let mut series = Series::empty();
         series.fill(&rows)?;
         let cases = [
-            (0, 0, 0),
-            (20210930, 0, 0),
-            (20211001, 10, 0),
-            (20211002, 10, 10),
-            (20220831, 10, 10),
-            (20220901, 20, 10),
-            (20220902, 20, 20),
-            (20230701, 30, 20),
-            (20230702, 30, 30),
-            (4_294_967_295, 30, 30),
+            (0, None, None),
+            (20210930, None, None),
+            (20211001, Some(10), None),
+            (20211002, Some(10), Some(10)),
+            (20220831, Some(10), Some(10)),
+            (20220901, Some(20), Some(10)),
+            (20220902, Some(20), Some(20)),
+            (20230701, Some(30), Some(20)),
+            (20230702, Some(30), Some(30)),
+            (4_294_967_295, Some(30), Some(30)),
         ];
         for (day, on, before) in cases {
-            assert_eq!(rt; number(series.in_force_on(day)), on);
-            assert_eq!(rt; number(series.in_force_before(day)), before);
+            assert_eq!(rt; series.in_force_on(day), on.map(IndexNumber));
+            assert_eq!(rt; series.in_force_before(day), before.map(IndexNumber));
         }
         Ok(())
-    }
-
-    // 0, which is no index number, where none is in force.
-    fn number(found: Option<IndexNumber>) -> u32 {
-        let Some(IndexNumber(number)) = found else {
-            return 0;
-        };
-        number
     }
 
     #[test]
@@ -76,7 +68,7 @@ mod tests {
         let mut series = Series::empty();
         series.fill(&rows)?;
         assert_eq!(rt; series.fill(&falling), Err(Refusal::BadSheet));
-        assert_eq!(rt; number(series.in_force_on(20211001)), 10);
+        assert_eq!(rt; series.in_force_on(20211001), Some(IndexNumber(10)));
         Ok(())
     }
 }

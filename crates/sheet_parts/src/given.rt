@@ -1,7 +1,6 @@
 // What a sheet is given when it is made: its prices, and how contributions are levied and shared.
 ghost use Rattle.std.specs.Prelude.{◌≡◌, slice_index};
 ghost use Rattle.sheet_parts.specs.Given.{price_of, price_fits, prices_in_limits, terms_in_limits};
-ghost use Rattle.tariff.specs.Most.{all_at_most};
 
 use series::Limited;
 use tariff::kinds::Kind;
@@ -15,6 +14,9 @@ const WHOLE: u32 = 100;
 // What a tranche weighs at most.
 const MOST_WEIGHT: u32 = 200;
 
+// The year indices of a tranche's subscription, 0 to 40.
+pub const YEAR_INDICES: usize = 41;
+
 // The price per tranche and dwelling of each kind, in micro-euros.
 #[derive(Clone, Copy, PartialEq, Eq, Debug)]
 pub struct Prices {
@@ -27,24 +29,21 @@ pub struct Prices {
 #[derive(Clone, Copy)]
 pub struct Terms {
     pub contribution: u32,
-    pub weights: [u32; 41],
+    pub weights: [u32; YEAR_INDICES],
 }
 
 impl Terms {
     // No contribution, and tranches that weigh nothing.
     pub const NONE: Terms = Terms {
         contribution: 0,
-        weights: [0; 41],
+        weights: [0; YEAR_INDICES],
     };
 
     // The weight of a tranche of a year index; beyond the last index there is none.
     pub fn weight(&self, index: u32) -> u32
         ensures value { result ≡ slice_index self.now.weights index }
     {
-        match self.weights.get(index as usize) {
-            Some(weight) => *weight,
-            None => 0,
-        }
+        self.weights.get(index as usize).copied().unwrap_or(0)
     }
 }
 
@@ -70,10 +69,10 @@ impl Limited for Prices {
     }
 }
 
-const fn price_fits(price: u32) -> bool
+fn price_fits(price: u32) -> bool
     ensures value { result ≡ price_fits price }
 {
-    1 <= price && price <= MOST_PRICE
+    (1..=MOST_PRICE).contains(&price)
 }
 
 impl Limited for Terms {
@@ -81,17 +80,6 @@ impl Limited for Terms {
 
     // The contribution is at most 100 hundredths, and each weight at most 200.
     fn in_limits(&self) -> bool {
-        self.contribution <= WHOLE && weights_fit(&self.weights)
+        self.contribution <= WHOLE && self.weights.iter().all(|weight| *weight <= MOST_WEIGHT)
     }
-}
-
-fn weights_fit(weights: &[u32]) -> bool
-    ensures value { result ≡ all_at_most 200 weights.now }
-{
-    for weight in weights {
-        if *weight > MOST_WEIGHT {
-            return false;
-        }
-    }
-    true
 }

@@ -1,7 +1,7 @@
 // Rounding to whole micro-euros by the seventh decimal of the euro.
-ghost use Rattle.std.specs.Prelude.{◌≡◌};
+ghost use Rattle.std.specs.Prelude.{◌≡◌, ◌<◌, nat_le};
 ghost use Rattle.tariff.specs.Meaning.{Near};
-ghost use Rattle.sheet_parts.specs.Rounding.{five_down, five_up, seventh_decimal};
+ghost use Rattle.sheet_parts.specs.Rounding.{five_down, five_up, seventh_decimal, up_if};
 
 use tariff::quotient::Quotient;
 
@@ -13,17 +13,26 @@ fn seventh_decimal(amount: Quotient) -> u64
     amount.numerator % divisor * 10 / divisor
 }
 
+// The next whole number from a seventh decimal on, else the last one.
+fn up_from(least: u64, amount: Quotient) -> u64
+    requires { 0 < least }
+    ensures value { result ≡ up_if (λ decimal. nat_le least decimal) amount.numerator amount.denominator }
+    ensures near { Near amount.numerator amount.denominator result }
+{
+    let whole = amount.numerator / u64::from(amount.denominator);
+    if seventh_decimal(amount) >= least {
+        whole + 1
+    } else {
+        whole
+    }
+}
+
 // Up only if the seventh decimal exceeds 5, whatever follows it.
 pub fn rounded_five_down(amount: Quotient) -> u64
     ensures value { result ≡ five_down amount.numerator amount.denominator }
     ensures near { Near amount.numerator amount.denominator result }
 {
-    let whole = amount.numerator / u64::from(amount.denominator);
-    if seventh_decimal(amount) > 5 {
-        whole + 1
-    } else {
-        whole
-    }
+    up_from(6, amount)
 }
 
 // Up if the seventh decimal is 5 or more.
@@ -31,10 +40,5 @@ pub fn rounded_five_up(amount: Quotient) -> u64
     ensures value { result ≡ five_up amount.numerator amount.denominator }
     ensures near { Near amount.numerator amount.denominator result }
 {
-    let whole = amount.numerator / u64::from(amount.denominator);
-    if seventh_decimal(amount) >= 5 {
-        whole + 1
-    } else {
-        whole
-    }
+    up_from(5, amount)
 }

@@ -1,4 +1,5 @@
-// The three price sheets: flat, indexed and dated.
+// The three price sheets: flat, indexed and dated. Each answers the five questions in lines of its own: what they share
+// stands in sheet_parts, and one more function round a line such as `self.terms.weight(index)` would be no plainer.
 #![tactic(auto)]
 
 pub mod dated;

@@ -1,43 +1,48 @@
-use Rattle.std.proofs.Common.{length, get_or, sym, ◌∙◌, arith, rules}
+use Rattle.std.proofs.Common.{◌≡◌, ◌<◌, true, length, sym, ap, ◌∙◌, Some, arith, rules}
 use Rattle.std.proofs.lemmas.List.{at_drop_all}
-use Rattle.std.proofs.lemmas.Bool.{eqb-false}
-use Rattle.quote_lines.specs.Words.{number, read_on}
-use Rattle.quote_lines.proofs.Digits.{read_more, read_none, digit_most, more_digits, nine_digits, read_whole, too_long}
+use Rattle.std.specs.Char.{digit_value}
+use Rattle.calendar.specs.Days.{within}
+use Rattle.quote_lines.specs.Words.{number, read_on, digit}
+use Rattle.quote_lines.proofs.Digits.{read_more, read_none, digit_read, digit_refused, one_to_nine, more_digits, nine_digits, read_whole}
 use Rattle.quote_lines.proofs.number.number_in.Goals as goal
 
-pub returns-then-is_empty : goal.returns-then-is_empty
+pub returns-then-not-contains : goal.returns-then-not-contains
 unfolding number
-returns-then-is_empty c = search rules
+returns-then-not-contains c = search rules
 
-pub returns-then-word-gt-MOST_DIGITS : goal.returns-then-word-gt-MOST_DIGITS
-returns-then-word-gt-MOST_DIGITS c = record { value = sym (too_long c.args.word.now (omega arith)) }
-
-pub returns-in_default : goal.returns-in_default
-returns-in_default c =
+pub returns-in_err-value : goal.returns-in_err-value
+returns-in_err-value c =
     let w = c.args.word.now in
-    let none = read_none c.loop-byte.value w c.loop-byte.byte-index (omega arith) (sym c.digit_in.ensures.value ∙ c.in_default.is) in
-    record { value = sym (read_whole w (omega arith) (omega arith) ∙ sym c.loop-byte.invariant.1 ∙ none) }
+    let long : within 1 (length w) 9 ≡ true = search rules in
+    let high : digit_value c.from.result < 10 → ⊥ = c.in_err-value.ensures.value in
+    let none = read_none c.loop-byte.value w c.loop-byte.byte-index (omega arith) (rw c.from.ensures at (digit_refused c.from.result high)) in
+    record { value = c.from_residual.ensures ∙ sym (read_whole w long ∙ sym c.loop-byte.invariant.1 ∙ none) }
 
 pub overflow_mul-value : goal.overflow_mul-value
 overflow_mul-value c =
+    let long : within 1 (length c.args.word.now) 9 ≡ true = search rules in
+    let most = (one_to_nine (length c.args.word.now) long).1 in
     let few = nine_digits c.loop-byte.value c.loop-byte.byte-index c.loop-byte.invariant.0 (omega arith) in
     omega arith
 
 pub overflow_add-value : goal.overflow_add-value
 overflow_add-value c =
+    let long : within 1 (length c.args.word.now) 9 ≡ true = search rules in
+    let most = (one_to_nine (length c.args.word.now) long).1 in
     let few = nine_digits c.loop-byte.value c.loop-byte.byte-index c.loop-byte.invariant.0 (omega arith) in
-    let nine = digit_most (get_or c.args.word.now c.loop-byte.byte-index 0) c.in-Some.digit (sym c.digit_in.ensures.value ∙ c.in-Some.is) in
+    let nine = c.in_ok-value.ensures.value in
     omega arith
 
 pub loop-byte-preserved : goal.loop-byte-preserved
 loop-byte-preserved c =
-    let is = sym c.digit_in.ensures.value ∙ c.in-Some.is in
-    let more = read_more c.loop-byte.value c.args.word.now c.loop-byte.byte-index (omega arith) c.in-Some.digit is in
-    (more_digits c.loop-byte.value c.in-Some.digit c.loop-byte.byte-index c.loop-byte.invariant.0 (digit_most (get_or c.args.word.now c.loop-byte.byte-index 0) c.in-Some.digit is), sym more ∙ c.loop-byte.invariant.1)
+    let nine = c.in_ok-value.ensures.value in
+    let is : digit c.from.result ≡ Some c.in_ok-value.field-0 = digit_read c.from.result nine.0 ∙ ap Some (sym nine.1) in
+    let more = read_more c.loop-byte.value c.args.word.now c.loop-byte.byte-index (omega arith) c.in_ok-value.field-0 (rw c.from.ensures at is) in
+    (more_digits c.loop-byte.value c.in_ok-value.field-0 c.loop-byte.byte-index c.loop-byte.invariant.0 (omega arith), sym more ∙ c.loop-byte.invariant.1)
 
 pub returns : goal.returns
 returns c =
     let w = c.args.word.now in
-    let some = eqb-false (length w) 0 (sym c.is_empty.ensures ∙ c.if-is_empty.false) in
+    let long : within 1 (length w) 9 ≡ true = search rules in
     let ends = at_drop_all (read_on c.loop-byte.value) w c.loop-byte.byte-index (omega arith) in
-    record { value = sym (read_whole w (omega arith) (omega arith) ∙ sym c.loop-byte.invariant.1 ∙ ends) }
+    record { value = sym (read_whole w long ∙ sym c.loop-byte.invariant.1 ∙ ends) }

@@ -12,15 +12,6 @@ pub overflow_mul-numerator : goal.overflow_mul-numerator
 overflow_mul-numerator c =
     let most = part_most (12 - c.args.months % 12) (c.args.months / 12) (omega arith) in omega arith
 
-pub overflow_mul-numerator-2 : goal.overflow_mul-numerator-2
-overflow_mul-numerator-2 c =
-    let most = part_most (c.args.months % 12) (c.args.months / 12 + 1) (omega arith) in omega arith
-
-pub overflow_add-numerator-2 : goal.overflow_add-numerator-2
-overflow_add-numerator-2 c =
-    let front = part_most (12 - c.args.months % 12) (c.args.months / 12) (omega arith) in
-    let back = part_most (c.args.months % 12) (c.args.months / 12 + 1) (omega arith) in omega arith
-
 pub returns : goal.returns
 unfolding coefficient_after
 returns c = record {

@@ -1,15 +1,12 @@
-use Rattle.std.proofs.Common.{◌-◌, arith}
-use Rattle.series.proofs.Halving.{fewer_digits, earlier_more, later_more}
+use Rattle.std.proofs.Common.{rules, ltb}
+use Rattle.std.proofs.lemmas.Bool.{ltb-true, ltb-false}
+use Rattle.std.proofs.lemmas.List.Sorted.{IsPartitionPoint-from_clause, IsPartitionedBy-ltb}
+use Rattle.series.proofs.Order.{rises}
 use Rattle.series.proofs.lent.Series.rows_below.Goals as goal
 
-pub loop-low-smaller-then-from-number : goal.loop-low-smaller-then-from-number
-loop-low-smaller-then-from-number g c = fewer_digits (c.loop-low.high - c.loop-low.low) _ (omega arith) (omega arith)
-
-pub loop-low-preserved-then-from-number : goal.loop-low-preserved-then-from-number
-loop-low-preserved-then-from-number g c = (omega arith, c.loop-low.invariant.1, earlier_more c.args.self.now.rows.now c.args.self.now.rising c.args.number _ (omega arith) c.index-self-middle.result (omega arith), c.loop-low.invariant.3)
-
-pub loop-low-smaller : goal.loop-low-smaller
-loop-low-smaller g c = fewer_digits (c.loop-low.high - c.loop-low.low) _ (omega arith) (omega arith)
-
-pub loop-low-preserved : goal.loop-low-preserved
-loop-low-preserved g c = (omega arith, omega arith, c.loop-low.invariant.2, later_more c.args.self.now.rows.now c.args.self.now.rising c.args.number _ (omega arith) c.index-self-middle.result (omega arith))
+pub returns-clause-parted : goal.returns-clause-parted
+returns-clause-parted g c =
+    let rows = c.args.self.now.rows.now in
+    let sorted = IsPartitionedBy-ltb (λ row. row.date) rows c.args.number (rises rows c.args.self.now.rising) in
+    let point = IsPartitionPoint-from_clause (λ row. ltb row.date c.args.number) rows c.partition_point.result c.partition_point.ensures.partitioned sorted (λ a r f' k. search rules) in
+    (λ k d from below. ltb-true _ _ (point.0 k d from below), λ k d from below. ltb-false _ _ (point.1 k d from below))
