@@ -1,7 +1,8 @@
 -- What the tables' check tells of the entries that a call counts.
-use Rattle.std.proofs.Common.{◌≡◌, ℕ, ◌≤◌, Bool, true, false, cond, List, [], ◌∷◌, length, refl, arith}
+use Rattle.std.proofs.Common.{◌≡◌, ℕ, ◌≤◌, Bool, true, false, List, [], ◌∷◌, length, refl, arith, ◌||◌}
+use Rattle.std.specs.List.{list_any}
 use Rattle.std.proofs.lemmas.Bool.{ltb-false}
-use Rattle.book.specs.Lists.{any, one_of}
+use Rattle.book.specs.Lists.{one_of}
 use Rattle.book.specs.Members.{rate_of}
 use Rattle.book.specs.Zone.{Tables, counted_roll, counted_register}
 use Rattle.book.specs.Refusals.{entry_faults, object_faults, table_faults, bad_rate}
@@ -12,8 +13,8 @@ use Rattle.book.proofs.Passing.{all_fail}
 pub record Admitted (f : Figures) (t : Tables) : Type 0 where
   pub roll_long : f.operators ≤ length t.roll
   pub register_long : f.objects ≤ length t.register
-  pub entries_sound : any (λ e. one_of (entry_faults e)) (counted_roll f t) ≡ false
-  pub objects_sound : any (λ o. one_of (object_faults o)) (counted_register f t) ≡ false
+  pub entries_sound : list_any (λ e. one_of (entry_faults e)) (counted_roll f t) ≡ false
+  pub objects_sound : list_any (λ o. one_of (object_faults o)) (counted_register f t) ≡ false
 
 pub admitted : (f : Figures) (t : Tables) → one_of (table_faults f t) ≡ false → Admitted f t
 admitted f t none =
@@ -29,13 +30,13 @@ admitted f t none =
 rate_of_one : (a b c : Bool) → one_of (a ∷ b ∷ c ∷ []) ≡ false → b ≡ false
 rate_of_one a b c none = (all_fail (a ∷ b ∷ c ∷ []) none).1.0
 
-any_less : {A : Type 0} (p q : A → Bool) → ((x : A) → p x ≡ false → q x ≡ false) → (xs : List A) → any p xs ≡ false → any q xs ≡ false
+any_less : {A : Type 0} (p q : A → Bool) → ((x : A) → p x ≡ false → q x ≡ false) → (xs : List A) → list_any p xs ≡ false → list_any q xs ≡ false
 any_less p q less [] none = refl
 any_less p q less (x ∷ xs) none = go (p x) (less x) none refl (any_less p q less xs)
   where
-    go : (b : Bool) → (p x ≡ false → q x ≡ false) → cond b true (any p xs) ≡ false → p x ≡ b → (any p xs ≡ false → any q xs ≡ false) → cond (q x) true (any q xs) ≡ false
+    go : (b : Bool) → (p x ≡ false → q x ≡ false) → (b || list_any p xs) ≡ false → p x ≡ b → (list_any p xs ≡ false → list_any q xs ≡ false) → (q x || list_any q xs) ≡ false
     go true one h is rest = let z : ◌≡◌ {A = ℕ} 0 1 = cc in absurd (omega arith)
     go false one h is rest = rw (one is) (rest h)
 
-pub rates_sound : (roll : List RollEntry) → any (λ e. one_of (entry_faults e)) roll ≡ false → any (λ e. bad_rate (rate_of e.tranches)) roll ≡ false
+pub rates_sound : (roll : List RollEntry) → list_any (λ e. one_of (entry_faults e)) roll ≡ false → list_any (λ e. bad_rate (rate_of e.tranches)) roll ≡ false
 rates_sound roll none = any_less (λ e. one_of (entry_faults e)) (λ e. bad_rate (rate_of e.tranches)) (λ e h. rate_of_one _ _ _ h) roll none

@@ -1,41 +1,31 @@
 -- A roll whose counted entries were credited: what enters it, and the places after them.
-use Rattle.std.proofs.Common.{◌≡◌, ℕ, suc, ◌+◌, ◌-◌, ◌≤◌, Bool, true, false, cond, eqb, List, [], ◌∷◌, ◌++◌, length, take, drop, sym, refl, ap, ◌∙◌, arith}
-use Rattle.std.proofs.lemmas.List.{length-append, length-drop, length-take-le, take_at, drop_at, drop-drop}
+use Rattle.std.proofs.Common.{◌≡◌, ℕ, suc, ◌+◌, ◌-◌, ◌≤◌, Bool, true, false, cond, eqb, List, [], ◌∷◌, ◌++◌, length, take, drop, sym, refl, ap, ◌∙◌, arith, map, ◌||◌}
+use Rattle.std.specs.List.{list_any}
+use Rattle.std.proofs.lemmas.List.{length-append, length-drop, length-take-le, take_at, drop_at, drop-drop, length-map}
 use Rattle.tariff.specs.Meaning.{Meaning}
-use Rattle.book.specs.Lists.{All, any, one_of, each, written}
+use Rattle.book.specs.Lists.{one_of, written}
 use Rattle.book.specs.Members.{rate_of, Addition, subscribed, entered_roll}
 use Rattle.book.specs.Refusals.{entry_faults, bad_rate}
 use Rattle.book.specs.Answers.{with_credit, credited_roll}
 use Rattle.book.specs.declared.entries.RollEntry.{RollEntry}
 use Rattle.book.specs.declared.entries.RegisterEntry.{RegisterEntry}
-use Rattle.book.proofs.Totals.{length_each, all_also}
-use Rattle.book.proofs.Passing.{none_of, all_fail}
-
-any_none : {A : Type 0} (test : A → Bool) (xs : List A) → All (λ x. test x ≡ false) xs → any test xs ≡ false
-any_none test [] h = refl
-any_none test (x ∷ xs) h = rw h.0 (any_none test xs h.1)
-
--- entries without fault have rates within their limits
-pub no_bad_rate : (roll : List RollEntry) → any (λ e. one_of (entry_faults e)) roll ≡ false → any (λ e. bad_rate (rate_of e.tranches)) roll ≡ false
-no_bad_rate roll h =
-    any_none (λ e. bad_rate (rate_of e.tranches)) roll
-    (all_also (λ e f. (all_fail (entry_faults e) f).1.0) roll (none_of (λ e. one_of (entry_faults e)) roll h))
+use Rattle.book.proofs.Admitting.{rates_sound}
 
 module _ (f : RollEntry → ℕ) where
   -- a credit leaves the tranches, and so the rates
-  rates_blind : (roll : List RollEntry) → any (λ e. bad_rate (rate_of e.tranches)) (each (λ e. with_credit (f e) e) roll) ≡ any (λ e. bad_rate (rate_of e.tranches)) roll
+  rates_blind : (roll : List RollEntry) → list_any (λ e. bad_rate (rate_of e.tranches)) (map (λ e. with_credit (f e) e) roll) ≡ list_any (λ e. bad_rate (rate_of e.tranches)) roll
   rates_blind [] = refl
-  rates_blind (e ∷ es) = ap (λ b. cond (bad_rate (rate_of e.tranches)) true b) (rates_blind es)
+  rates_blind (e ∷ es) = ap (λ b. bad_rate (rate_of e.tranches) || b) (rates_blind es)
 
   -- and as many entries are entered
-  pub entered_blind : (a : Addition) (roll : List RollEntry) → length (entered_roll a (each (λ e. with_credit (f e) e) roll)) ≡ length (entered_roll a roll)
+  pub entered_blind : (a : Addition) (roll : List RollEntry) → length (entered_roll a (map (λ e. with_credit (f e) e) roll)) ≡ length (entered_roll a roll)
   entered_blind a [] = refl
   entered_blind a (e ∷ es) = go (eqb e.operator a.operator) (entered_blind a es)
     where
-      go : (b : Bool) → length (entered_roll a (each (λ e. with_credit (f e) e) es)) ≡ length (entered_roll a es) →
-          length (cond b (subscribed a (with_credit (f e) e) ∷ each (λ e. with_credit (f e) e) es) (with_credit (f e) e ∷ entered_roll a (each (λ e. with_credit (f e) e) es))) ≡
+      go : (b : Bool) → length (entered_roll a (map (λ e. with_credit (f e) e) es)) ≡ length (entered_roll a es) →
+          length (cond b (subscribed a (with_credit (f e) e) ∷ map (λ e. with_credit (f e) e) es) (with_credit (f e) e ∷ entered_roll a (map (λ e. with_credit (f e) e) es))) ≡
           length (cond b (subscribed a e ∷ es) (e ∷ entered_roll a es))
-      go true r = ap suc (length_each (λ e. with_credit (f e) e) es)
+      go true r = ap suc (length-map es (λ e. with_credit (f e) e))
       go false r = ap suc r
 
 none_lost : (a : Addition) (roll : List RollEntry) → length roll ≤ length (entered_roll a roll)
@@ -48,7 +38,7 @@ none_lost a (e ∷ es) = go (eqb e.operator a.operator) (none_lost a es)
 
 module _ (m : Meaning) (a : Addition) (os : List RegisterEntry) (roll : List RollEntry) (n : ℕ) (fits : n ≤ length roll) (xs : List RollEntry) (is : xs ≡ credited_roll m a os (take n roll)) where
   credited_length : length xs ≡ n
-  credited_length = ap length is ∙ length_each _ (take n roll) ∙ length-take-le n roll fits
+  credited_length = ap length is ∙ length-map (take n roll) _ ∙ length-take-le n roll fits
 
   pub credited_front : take n (xs ++ drop n roll) ≡ xs
   credited_front = take_at xs (drop n roll) n credited_length
@@ -56,8 +46,8 @@ module _ (m : Meaning) (a : Addition) (os : List RegisterEntry) (roll : List Rol
   pub credited_long : length (xs ++ drop n roll) ≡ length roll
   credited_long = omega (arith, credited_length, length-append xs (drop n roll), length-drop n roll)
 
-  pub credited_rates : any (λ e. one_of (entry_faults e)) (take n roll) ≡ false → any (λ e. bad_rate (rate_of e.tranches)) (take n (xs ++ drop n roll)) ≡ false
-  credited_rates h = ap (any (λ e. bad_rate (rate_of e.tranches))) (credited_front ∙ is) ∙ rates_blind _ (take n roll) ∙ no_bad_rate (take n roll) h
+  pub credited_rates : list_any (λ e. one_of (entry_faults e)) (take n roll) ≡ false → list_any (λ e. bad_rate (rate_of e.tranches)) (take n (xs ++ drop n roll)) ≡ false
+  credited_rates h = ap (list_any (λ e. bad_rate (rate_of e.tranches))) (credited_front ∙ is) ∙ rates_blind _ (take n roll) ∙ rates_sound (take n roll) h
 
   pub credited_room : length (entered_roll a (take n roll)) ≤ length roll → length (entered_roll a (take n (xs ++ drop n roll))) ≤ length (xs ++ drop n roll)
   credited_room h =
@@ -75,6 +65,3 @@ module _ (m : Meaning) (a : Addition) (os : List RegisterEntry) (roll : List Rol
       ap (λ i. drop i (xs ++ drop n roll)) k ∙ sym (drop-drop j n (xs ++ drop n roll)) ∙ ap (drop j) (drop_at xs (drop n roll) n credited_length) ∙
       drop-drop j n roll ∙ ap (λ i. drop i roll) (sym k) in
       e ∙ ap (λ ys. written (entered_roll a ys) (xs ++ drop n roll)) credited_front ∙ ap (λ ys. es ++ ys) later ∙ ap (λ ys. written (entered_roll a ys) roll) is
-
-  pub credited_count : (count : ℕ) → count ≡ length (entered_roll a (take n (xs ++ drop n roll))) → count ≡ length (entered_roll a (credited_roll m a os (take n roll)))
-  credited_count count e = e ∙ ap (λ ys. length (entered_roll a ys)) (credited_front ∙ is)

@@ -1,9 +1,11 @@
 -- The limits of weights and amounts in accepted tables.
+use Rattle.std.specs.Option.{unwrap_or}
 use Rattle.std.proofs.Common.{◌≡◌, ℕ, zero, suc, ◌+◌, ◌*◌, ◌≤◌, Bool, true, false, cond, T, List, [], ◌∷◌, length, take, Some, None, Option, mul-le-mul, mul-le-mul_left, mul-add, arith}
+use Rattle.std.specs.List.{AllByRecursion}
 use Rattle.calendar.specs.Days.{is_date}
 use Rattle.tariff.specs.Meaning.{Meaning, Lawful, Answered, PriceLimits}
 use Rattle.tariff.specs.declared.kinds.Kind.{Kind}
-use Rattle.book.specs.Lists.{All, total, or_else}
+use Rattle.book.specs.Lists.{total}
 use Rattle.book.specs.Members.{Member, rate_of, weighed, weight_to, whole_weight, Addition}
 use Rattle.book.specs.Billing.{price_at, unit_contribution, earlier}
 use Rattle.book.specs.Sharing.{object_contribution}
@@ -42,14 +44,14 @@ weight_most m law n ts l h =
 abbrev pub Rated : Member → Type 0
 Rated x = rate_of x.tranches ≤ 20
 
-weights_each : (m : Meaning) → Lawful m → (n : ℕ) (xs : List Member) → All Shaped xs → All Rated xs → All (λ x. weight_to m n x.tranches ≤ 4000) xs
+weights_each : (m : Meaning) → Lawful m → (n : ℕ) (xs : List Member) → AllByRecursion Shaped xs → AllByRecursion Rated xs → AllByRecursion (λ x. weight_to m n x.tranches ≤ 4000) xs
 weights_each m law n [] h r = tt
 weights_each m law n (x ∷ xs) h r = (weight_most m law n x.tranches h.0 r.0, weights_each m law n xs h.1 r.1)
 
-pub weights_most : (m : Meaning) → Lawful m → (n : ℕ) (xs : List Member) → All Shaped xs → All Rated xs → length xs ≤ 16 → whole_weight m n xs ≤ 64000
+pub weights_most : (m : Meaning) → Lawful m → (n : ℕ) (xs : List Member) → AllByRecursion Shaped xs → AllByRecursion Rated xs → length xs ≤ 16 → whole_weight m n xs ≤ 64000
 weights_most m law n xs h r short = let t = total_most (λ x. weight_to m n x.tranches) 4000 xs (weights_each m law n xs h r) in omega arith
 
-price_found : (p : Option ℕ) → Answered PriceLimits p → or_else 0 p ≤ 500000000
+price_found : (p : Option ℕ) → Answered PriceLimits p → unwrap_or p 0 ≤ 500000000
 price_found None h = omega arith
 price_found (Some p) h = h.most
 

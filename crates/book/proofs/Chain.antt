@@ -1,9 +1,11 @@
 -- The raises of a cut: each is followed by a share-out that enters its tranches, so they add up to the whole raise.
-use Rattle.std.proofs.Common.{◌≡◌, ℕ, ◌+◌, ◌-◌, ◌<◌, ◌≤◌, false, T, List, [], ◌∷◌, length, Some, Ok, sym, refl, ap, ◌∙◌, subst, arith}
+use Rattle.std.proofs.Common.{◌≡◌, ℕ, ◌+◌, ◌-◌, ◌<◌, ◌≤◌, false, T, List, [], ◌∷◌, length, Some, Ok, sym, refl, ap, ◌∙◌, subst, arith, map, is_none}
+use Rattle.std.proofs.lemmas.List.{length-map}
+use Rattle.std.specs.List.{AllByRecursion}
 use Rattle.std.proofs.lemmas.Bool.{leb-false, ltb-false}
 use Rattle.calendar.specs.Days.{is_date, index_of}
 use Rattle.tariff.specs.Meaning.{Meaning}
-use Rattle.book.specs.Lists.{All, total, each, is_none}
+use Rattle.book.specs.Lists.{total}
 use Rattle.book.specs.Lines.{unit_shown}
 use Rattle.book.specs.Members.{Member, rate_of, member, present_rate, Addition, whole_weight}
 use Rattle.book.specs.Billing.{bill}
@@ -20,7 +22,7 @@ use Rattle.book.specs.declared.lines.Line.{Line}
 use Rattle.book.specs.declared.lines.Nature.TheVariants.{Charge, Contribution}
 use Rattle.book.specs.declared.zone.Figures.{Figures}
 use Rattle.book.specs.declared.zone.Event.{Event}
-use Rattle.book.proofs.Totals.{total_each, length_each}
+use Rattle.book.proofs.Totals.{total_map}
 use Rattle.book.proofs.Passing.{accepted_is, inside, real_of}
 use Rattle.book.proofs.Entering.{Shaped, entered_shaped, paid_shaped, paid_tranches, paid_there}
 use Rattle.book.proofs.Amounts.{Sized}
@@ -36,7 +38,7 @@ module _ (m : Meaning) (date op : ℕ) where
     pub most : to ≤ 20
     pub index : index_of day date ≤ 40
     pub today : T (is_date date)
-    pub sized : All Sized (counted_register f t)
+    pub sized : AllByRecursion Sized (counted_register f t)
     pub is : billing_effect m f day t (raise_event date op to) ≡ effect
 
   raised_is : (f : Figures) (day : ℕ) (t : Tables) (places to : ℕ) (effect : Effect) →
@@ -58,10 +60,10 @@ module _ (m : Meaning) (date op : ℕ) where
     pub phase : effect.state.phase ≡ launched day
     pub register : counted_register effect.state.figures effect.state.tables ≡ counted_register f t
     pub rate : present_rate op (counted_members effect.state.figures effect.state.tables) ≡ to
-    pub shaped : All Shaped (counted_members effect.state.figures effect.state.tables)
+    pub shaped : AllByRecursion Shaped (counted_members effect.state.figures effect.state.tables)
 
   settled_is : (f : Figures) (day : ℕ) (t : Tables) (places to : ℕ) (effect : Effect) →
-      settling m f day t places (raise_event date op to) ≡ Ok effect → index_of day date ≤ 40 → All Shaped (counted_members f t) → Settled f day t to effect
+      settling m f day t places (raise_event date op to) ≡ Ok effect → index_of day date ≤ 40 → AllByRecursion Shaped (counted_members f t) → Settled f day t to effect
   settled_is f day t places to effect e few shaped =
       let a = accepted_is (settling_checks m f day t places (raise_event date op to)) (settling_effect m f day t (raise_event date op to)) effect e in
       let c = a.0.1 in
@@ -78,7 +80,7 @@ module _ (m : Meaning) (date op : ℕ) where
         phase = refl;
         register = refl;
         rate = omega arith;
-        shaped = subst (All Shaped) (sym roll) (entered_shaped add _ (paid_shaped pays xs shaped));
+        shaped = subst (AllByRecursion Shaped) (sym roll) (entered_shaped add _ (paid_shaped pays xs shaped));
       })
 
 cons_same : {A : Type 0} (x y : A) (xs ys : List A) → x ≡ y → xs ≡ ys → x ∷ xs ≡ y ∷ ys
@@ -100,8 +102,8 @@ module _ (m : Meaning) (date op R day : ℕ) (reg : List RegisterEntry) where
   -- what holds of each state along a cut
   abbrev Good : Phase → Figures → Tables → Type 0
   Good preparing f t = ⊥
-  Good (launched d) f t = (d ≡ day) × (counted_register f t ≡ reg) × All Shaped (counted_members f t)
-  Good (levied d v) f t = (d ≡ day) × (counted_register f t ≡ reg) × All Shaped (counted_members f t) × (index_of d date ≤ 40) × ((r : ℕ) × (v ≡ raise_to r))
+  Good (launched d) f t = (d ≡ day) × (counted_register f t ≡ reg) × AllByRecursion Shaped (counted_members f t)
+  Good (levied d v) f t = (d ≡ day) × (counted_register f t ≡ reg) × AllByRecursion Shaped (counted_members f t) × (index_of d date ≤ 40) × ((r : ℕ) × (v ≡ raise_to r))
 
   -- the rate from which the rest of a cut goes on
   abbrev base : Phase → Figures → Tables → ℕ
@@ -114,7 +116,7 @@ module _ (m : Meaning) (date op R day : ℕ) (reg : List RegisterEntry) where
 
   pub record Parts (from : ℕ) (parts : List (List Line)) : Type 0 where
     pub ks : List ℕ
-    pub lines : parts ≡ each lines_for ks
+    pub lines : parts ≡ map lines_for ks
     pub adds : total (λ k. k) ks + from ≡ R
 
   abbrev lines_at : ℕ → ℕ → List RegisterEntry → List Line
@@ -177,7 +179,7 @@ pub every_cut_fair : EveryCutFair (λ parts. parts)
 every_cut_fair m law calls s life day phase date op rate effect acc parts cut ob =
     let M = mirrors m law life in
     let reg = counted_register s.figures s.tables in
-    let shaped : All Shaped (counted_members s.figures s.tables) = subst (All Shaped) (sym M.members) M.bounds.shaped in
+    let shaped : AllByRecursion Shaped (counted_members s.figures s.tables) = subst (AllByRecursion Shaped) (sym M.members) M.bounds.shaped in
     let a = given_is _ _ (event_accepted m s.figures s.tables acc.places (raise_event date op rate) effect s.phase (launched day) phase acc.answer) in
     let r = raised_is m date op s.figures day s.tables acc.places rate effect a in
     let p = chain m date op rate day reg cut (launched day) phase (refl, refl, shaped) in
@@ -185,14 +187,14 @@ every_cut_fair m law calls s life day phase date op rate effect acc parts cut ob
     let few : total (λ k. k) p.ks ≤ 20 = let c = p.adds in let d = r.most in omega arith in
     let one : effect.lines ≡ lines_for m date op rate day reg (total (λ k. k) p.ks) =
     raise_lines m date op rate day reg s.figures day s.tables rate effect r refl refl ∙ ap (lines_for m date op rate day reg) sum in
-    let n : length parts ≡ length p.ks = ap length p.lines ∙ length_each (lines_for m date op rate day reg) p.ks in
+    let n : length parts ≡ length p.ks = ap length p.lines ∙ length-map p.ks (lines_for m date op rate day reg) in
     let c1 = charges_apart m law op date (index_of day date) ob p.ks few r.today reg r.sized in
     let c2 = contributions_apart m law op date (index_of day date) ob p.ks few r.today reg r.sized in
     let u1 = ap (unit_shown Charge op ob) one in
     let u2 = ap (unit_shown Contribution op ob) one in
     let t1 : total (unit_shown Charge op ob) parts ≡ total (λ k. unit_shown Charge op ob (lines_for m date op rate day reg k)) p.ks =
-    ap (total (unit_shown Charge op ob)) p.lines ∙ total_each (unit_shown Charge op ob) (lines_for m date op rate day reg) p.ks in
+    ap (total (unit_shown Charge op ob)) p.lines ∙ total_map (unit_shown Charge op ob) (lines_for m date op rate day reg) p.ks in
     let t2 : total (unit_shown Contribution op ob) parts ≡ total (λ k. unit_shown Contribution op ob (lines_for m date op rate day reg k)) p.ks =
-    ap (total (unit_shown Contribution op ob)) p.lines ∙ total_each (unit_shown Contribution op ob) (lines_for m date op rate day reg) p.ks in
+    ap (total (unit_shown Contribution op ob)) p.lines ∙ total_map (unit_shown Contribution op ob) (lines_for m date op rate day reg) p.ks in
     let o1 = c1.over in let o2 = c1.under in let o3 = c2.over in let o4 = c2.under in
     (record { over = omega arith; under = omega arith }, record { over = omega arith; under = omega arith })

@@ -2,12 +2,13 @@
 --   lines_of, lines_all   the credit lines of one object, of several, by a whole weight
 --   paid_of, paid_all     an entry with its share of one object, of several, on its balance
 --   Inner, Outer          what the two loops have done
-use Rattle.std.proofs.Common.{◌≡◌, ℕ, zero, suc, ◌+◌, ◌*◌, ◌<◌, ◌≤◌, Bool, true, false, cond, eqb, List, [], ◌∷◌, ◌++◌, length, get_or, take, drop, set, sym, refl, ap, ◌∙◌, subst, ⊎_elim, add-zero, add_assoc, mul-le-mul_right, add-mul, mul-le-mul, mul-le-mul_left, one-mul, zero-add, mul-one, arith}
+use Rattle.std.proofs.Common.{◌≡◌, ℕ, zero, suc, ◌+◌, ◌*◌, ◌<◌, ◌≤◌, Bool, true, false, cond, eqb, List, [], ◌∷◌, ◌++◌, length, get_or, take, drop, set, sym, refl, ap, ◌∙◌, subst, ⊎_elim, add-zero, add_assoc, mul-le-mul_right, add-mul, mul-le-mul, mul-le-mul_left, one-mul, zero-add, mul-one, arith, flat_map, map}
+use Rattle.std.specs.List.{AllByRecursion}
 use Rattle.std.proofs.ByRecursion.{All-get_or}
-use Rattle.std.proofs.lemmas.List.{length-append, length-drop, drop-drop, drop-set-lt, set-get_or, take_more, take_more_set, take_all, get_or-drop, at_drop_more, at_drop_all}
+use Rattle.std.proofs.lemmas.List.{length-append, length-drop, drop-drop, drop-set-lt, set-get_or, take_more, take_more_set, take_all, get_or-drop, at_drop_more, at_drop_all, map-append}
 use Rattle.std.proofs.lemmas.Bool.{cases_lt, cond-true, cond-false}
 use Rattle.tariff.specs.Meaning.{Meaning, Lawful}
-use Rattle.book.specs.Lists.{All, total, each, joined, written}
+use Rattle.book.specs.Lists.{total, written}
 use Rattle.book.specs.Lines.{line}
 use Rattle.book.specs.Members.{member_of, members_of, rate_of, weight_to, whole_weight, Addition}
 use Rattle.book.specs.Sharing.{object_contribution, to_share, serves, share_of, payout, credit, credits, left_unshared}
@@ -35,22 +36,18 @@ share_most m law amount weight whole small le some few =
     (λ ge. absurd (omega (arith, mul-le-mul_right whole ge, near.over, add-mul amount 1 whole, one-mul whole)))
     (cases_lt r (amount + 1))
 
-pub each_append : {A B : Type 0} (f : A → B) (xs ys : List A) → each f (xs ++ ys) ≡ each f xs ++ each f ys
-each_append f [] ys = refl
-each_append f (x ∷ xs) ys = ap (λ zs. f x ∷ zs) (each_append f xs ys)
-
-each_more : {A B : Type 0} (f : A → B) (xs : List A) (i : ℕ) (d : A) → i < length xs → each f (take (i + 1) xs) ≡ each f (take i xs) ++ f (get_or xs i d) ∷ []
-each_more f xs i d h = ap (each f) (take_more xs i d h) ∙ each_append f (take i xs) (get_or xs i d ∷ [])
+map_more : {A B : Type 0} (f : A → B) (xs : List A) (i : ℕ) (d : A) → i < length xs → map f (take (i + 1) xs) ≡ map f (take i xs) ++ f (get_or xs i d) ∷ []
+map_more f xs i d h = ap (map f) (take_more xs i d h) ∙ map-append f (take i xs) (get_or xs i d ∷ [])
 
 abbrev pub sums : List Line → ℕ
 sums ls = total (λ l. l.total) ls
 
 module _ (m : Meaning) (a : Addition) (whole : ℕ) where
   abbrev pub lines_of : RegisterEntry → List RollEntry → List Line
-  lines_of o roll = joined (credit m a whole o) (members_of roll)
+  lines_of o roll = flat_map (credit m a whole o) (members_of roll)
 
   abbrev pub lines_all : List RegisterEntry → List RollEntry → List Line
-  lines_all os roll = joined (λ o. joined (credit m a whole o) (members_of roll)) os
+  lines_all os roll = flat_map (λ o. flat_map (credit m a whole o) (members_of roll)) os
 
   abbrev pub paid_of : RegisterEntry → RollEntry → RollEntry
   paid_of o e = with_credit (share_of m a whole o e.tranches) e
@@ -62,15 +59,15 @@ module _ (m : Meaning) (a : Addition) (whole : ℕ) where
   weight_in e = weight_to m a.index e.tranches
 
   -- a credit leaves operator and tranches, so lines and weights do not change with balances
-  lines_blind : (o : RegisterEntry) (f : RollEntry → ℕ) (roll : List RollEntry) → lines_of o (each (λ e. with_credit (f e) e) roll) ≡ lines_of o roll
+  lines_blind : (o : RegisterEntry) (f : RollEntry → ℕ) (roll : List RollEntry) → lines_of o (map (λ e. with_credit (f e) e) roll) ≡ lines_of o roll
   lines_blind o f [] = refl
   lines_blind o f (e ∷ es) = ap (λ ls. credit m a whole o (member_of e) ++ ls) (lines_blind o f es)
 
-  all_blind : (os : List RegisterEntry) (f : RollEntry → ℕ) (roll : List RollEntry) → lines_all os (each (λ e. with_credit (f e) e) roll) ≡ lines_all os roll
+  all_blind : (os : List RegisterEntry) (f : RollEntry → ℕ) (roll : List RollEntry) → lines_all os (map (λ e. with_credit (f e) e) roll) ≡ lines_all os roll
   all_blind [] f roll = refl
   all_blind (o ∷ os) f roll = (λ k. lines_blind o f roll k ++ all_blind os f roll k)
 
-  weight_blind : (f : RollEntry → ℕ) (roll : List RollEntry) → whole_weight m a.index (members_of (each (λ e. with_credit (f e) e) roll)) ≡ whole_weight m a.index (members_of roll)
+  weight_blind : (f : RollEntry → ℕ) (roll : List RollEntry) → whole_weight m a.index (members_of (map (λ e. with_credit (f e) e) roll)) ≡ whole_weight m a.index (members_of roll)
   weight_blind f [] = refl
   weight_blind f (e ∷ es) = ap (λ n. weight_in e + n) (weight_blind f es)
 
@@ -80,18 +77,18 @@ module _ (m : Meaning) (a : Addition) (whole : ℕ) where
       ap (λ b. record { operator = e.operator; tranches = e.tranches; balance = b })
       (add_assoc e.balance (share_of m a whole o e.tranches) (payout m a whole os e.tranches))
 
-  paid_each : (o : RegisterEntry) (os : List RegisterEntry) (roll : List RollEntry) → each (paid_all os) (each (paid_of o) roll) ≡ each (paid_all (o ∷ os)) roll
+  paid_each : (o : RegisterEntry) (os : List RegisterEntry) (roll : List RollEntry) → map (paid_all os) (map (paid_of o) roll) ≡ map (paid_all (o ∷ os)) roll
   paid_each o os [] = refl
   paid_each o os (e ∷ es) = (λ k. paid_then o os e k ∷ paid_each o os es k)
 
-  paid_none : (roll : List RollEntry) → each (paid_all []) roll ≡ roll
+  paid_none : (roll : List RollEntry) → map (paid_all []) roll ≡ roll
   paid_none [] = refl
   paid_none (e ∷ es) = (λ k. record { operator = e.operator; tranches = e.tranches; balance = add-zero e.balance k } ∷ paid_none es k)
 
 -- one object: some entries are done, and the others are as they were
 module _ (m : Meaning) (a : Addition) (whole : ℕ) (o : RegisterEntry) (roll₁ : List RollEntry) (strip₁ : List Line) (at paid₁ : ℕ) where
   pub record Inner (i n paid : ℕ) (roll : List RollEntry) (strip : List Line) : Type 0 where
-    pub front : take i roll ≡ each (paid_of m a whole o) (take i roll₁)
+    pub front : take i roll ≡ map (paid_of m a whole o) (take i roll₁)
     pub rest : drop i roll ≡ drop i roll₁
     pub lines : Writing at strip₁ (lines_of m a whole o roll₁) (lines_of m a whole o (drop i roll₁)) n strip
     pub sum : paid + sums (lines_of m a whole o (drop i roll₁)) ≡ paid₁ + sums (lines_of m a whole o roll₁)
@@ -148,7 +145,7 @@ module _ {m : Meaning} {a : Addition} {whole : ℕ} {o : RegisterEntry} {roll₁
           let t = ap sums line_left in
           let u : m.rounded (amount * weight) whole * 1 ≡ part = mul-one _ ∙ sym is_p in
           record {
-            front = take_more_set roll i _ h ∙ (λ k. s.front k ++ entry k ∷ []) ∙ sym (each_more (paid_of m a whole o) roll₁ i d there);
+            front = take_more_set roll i _ h ∙ (λ k. s.front k ++ entry k ∷ []) ∙ sym (map_more (paid_of m a whole o) roll₁ i d there);
             rest = drop-set-lt (i + 1) roll i _ (omega arith) ∙ next_rest;
             lines = write_one s.lines _ x _ (is_x ∙ ap (λ p. line Credit (get_or roll i d).operator o.object p 1) is_p) line_left;
             sum = omega (arith, s.sum, t, u);
@@ -164,7 +161,7 @@ module _ {m : Meaning} {a : Addition} {whole : ℕ} {o : RegisterEntry} {roll₁
         ap (λ b. record { operator = (get_or roll i d).operator; tranches = (get_or roll i d).tranches; balance = b }) (sym (add-zero (get_or roll i d).balance)) ∙
         ap (λ p. with_credit p (get_or roll i d)) (sym zero_share) ∙ ap (paid_of m a whole o) read in
         rw (set-get_or roll i d) (record {
-          front = take_more roll i d h ∙ (λ k. s.front k ++ same k ∷ []) ∙ sym (each_more (paid_of m a whole o) roll₁ i d there);
+          front = take_more roll i d h ∙ (λ k. s.front k ++ same k ∷ []) ∙ sym (map_more (paid_of m a whole o) roll₁ i d there);
           rest = next_rest;
           lines = write_none s.lines _ left;
           sum = omega (arith, s.sum, ap sums left);
@@ -173,7 +170,7 @@ module _ {m : Meaning} {a : Addition} {whole : ℕ} {o : RegisterEntry} {roll₁
 
 -- what one object leaves
 pub record Turned (m : Meaning) (a : Addition) (whole : ℕ) (o : RegisterEntry) (roll₁ : List RollEntry) (strip₁ : List Line) (at paid₁ n paid : ℕ) (roll : List RollEntry) (strip : List Line) : Type 0 where
-  pub entries : roll ≡ each (paid_of m a whole o) roll₁
+  pub entries : roll ≡ map (paid_of m a whole o) roll₁
   pub lines : Writing at strip₁ (lines_of m a whole o roll₁) [] n strip
   pub sum : paid ≡ paid₁ + sums (lines_of m a whole o roll₁)
 
@@ -182,7 +179,7 @@ pub inner_done : {m : Meaning} {a : Addition} {whole : ℕ} {o : RegisterEntry} 
 inner_done {m} {a} {whole} {o} {roll₁} {strip₁} {at} {paid₁} {i} {n} {paid} {roll} {strip} s h same =
     let none : lines_of m a whole o (drop i roll₁) ≡ [] = at_drop_all (lines_of m a whole o) roll₁ i (omega arith) in
     record {
-      entries = sym (take_all i roll h) ∙ s.front ∙ ap (each (paid_of m a whole o)) (take_all i roll₁ (omega arith));
+      entries = sym (take_all i roll h) ∙ s.front ∙ ap (map (paid_of m a whole o)) (take_all i roll₁ (omega arith));
       lines = write_none s.lines [] none;
       sum = omega (arith, s.sum, ap sums none);
     }
@@ -191,16 +188,16 @@ inner_done {m} {a} {whole} {o} {roll₁} {strip₁} {at} {paid₁} {i} {n} {paid
 module _ (m : Meaning) (a : Addition) (whole : ℕ) (os : List RegisterEntry) (roll₀ : List RollEntry) (strip₀ : List Line) where
   pub record Outer (k n brought paid : ℕ) (roll : List RollEntry) (strip : List Line) : Type 0 where
     pub lines : Writing 0 strip₀ (lines_all m a whole os roll₀) (lines_all m a whole (drop k os) roll) n strip
-    pub entries : each (paid_all m a whole (drop k os)) roll ≡ each (paid_all m a whole os) roll₀
+    pub entries : map (paid_all m a whole (drop k os)) roll ≡ map (paid_all m a whole os) roll₀
     pub weighs : whole ≡ whole_weight m a.index (members_of roll)
-    pub rates : All (λ e. rate_of e.tranches ≤ 20) roll
-    pub balances : All (λ e. e.balance ≤ 4000000000000000000 + 100000000000000 * k) roll
+    pub rates : AllByRecursion (λ e. rate_of e.tranches ≤ 20) roll
+    pub balances : AllByRecursion (λ e. e.balance ≤ 4000000000000000000 + 100000000000000 * k) roll
     pub given : brought + total (object_contribution m a) (drop k os) ≡ total (object_contribution m a) os
     pub given_most : brought ≤ 100000000000000 * k
     pub sum : paid + sums (lines_all m a whole (drop k os) roll) ≡ sums (lines_all m a whole os roll₀)
     pub sum_most : paid ≤ 1600000000000000 * k
 
-  pub outer_start : whole ≡ whole_weight m a.index (members_of roll₀) → All (λ e. rate_of e.tranches ≤ 20) roll₀ → All (λ e. e.balance ≤ 4000000000000000000) roll₀ → Outer 0 0 0 0 roll₀ strip₀
+  pub outer_start : whole ≡ whole_weight m a.index (members_of roll₀) → AllByRecursion (λ e. rate_of e.tranches ≤ 20) roll₀ → AllByRecursion (λ e. e.balance ≤ 4000000000000000000) roll₀ → Outer 0 0 0 0 roll₀ strip₀
   outer_start is rates held = record {
     lines = at_start 0 strip₀ (lines_all m a whole os roll₀);
     entries = refl;
@@ -214,12 +211,12 @@ module _ (m : Meaning) (a : Addition) (whole : ℕ) (os : List RegisterEntry) (r
   }
 
 -- what every entry has after its share of an object
-paid_rates : (m : Meaning) (a : Addition) (whole : ℕ) (o : RegisterEntry) (roll : List RollEntry) → All (λ e. rate_of e.tranches ≤ 20) roll → All (λ e. rate_of e.tranches ≤ 20) (each (paid_of m a whole o) roll)
+paid_rates : (m : Meaning) (a : Addition) (whole : ℕ) (o : RegisterEntry) (roll : List RollEntry) → AllByRecursion (λ e. rate_of e.tranches ≤ 20) roll → AllByRecursion (λ e. rate_of e.tranches ≤ 20) (map (paid_of m a whole o) roll)
 paid_rates m a whole o [] h = tt
 paid_rates m a whole o (e ∷ es) h = (h.0, paid_rates m a whole o es h.1)
 
 paid_balances : (m : Meaning) (a : Addition) (whole : ℕ) (o : RegisterEntry) (b : ℕ) → ((e : RollEntry) → weight_to m a.index e.tranches ≤ whole → share_of m a whole o e.tranches ≤ 100000000000000) →
-    (roll : List RollEntry) → whole_weight m a.index (members_of roll) ≤ whole → All (λ e. e.balance ≤ b) roll → All (λ e. e.balance ≤ b + 100000000000000) (each (paid_of m a whole o) roll)
+    (roll : List RollEntry) → whole_weight m a.index (members_of roll) ≤ whole → AllByRecursion (λ e. e.balance ≤ b) roll → AllByRecursion (λ e. e.balance ≤ b + 100000000000000) (map (paid_of m a whole o) roll)
 paid_balances m a whole o b most [] le h = tt
 paid_balances m a whole o b most (e ∷ es) le h =
     (let s = most e (omega arith) in omega (arith, h.0), paid_balances m a whole o b most es (omega arith) h.1)
@@ -257,12 +254,12 @@ module _ {m : Meaning} {a : Addition} {whole : ℕ} {os : List RegisterEntry} {r
       record {
         lines = write_many s.lines (lines_of m a whole o roll) _ here n' strip' t.lines;
         entries =
-            ap (each (paid_all m a whole (drop (k + 1) os))) t.entries ∙ paid_each m a whole o (drop (k + 1) os) roll ∙
-            sym (at_drop_more (λ gs. each (paid_all m a whole gs) roll) os k d h) ∙ s.entries;
+            ap (map (paid_all m a whole (drop (k + 1) os))) t.entries ∙ paid_each m a whole o (drop (k + 1) os) roll ∙
+            sym (at_drop_more (λ gs. map (paid_all m a whole gs) roll) os k d h) ∙ s.entries;
         weighs = s.weighs ∙ sym (ap (λ es. whole_weight m a.index (members_of es)) t.entries ∙ weight_blind m a whole (λ e. share_of m a whole o e.tranches) roll);
-        rates = subst (All (λ e. rate_of e.tranches ≤ 20)) (sym t.entries) (paid_rates m a whole o roll s.rates);
+        rates = subst (AllByRecursion (λ e. rate_of e.tranches ≤ 20)) (sym t.entries) (paid_rates m a whole o roll s.rates);
         balances =
-            subst (All (λ e. e.balance ≤ 4000000000000000000 + 100000000000000 * (k + 1))) (sym t.entries)
+            subst (AllByRecursion (λ e. e.balance ≤ 4000000000000000000 + 100000000000000 * (k + 1))) (sym t.entries)
             (all_also (λ e b. omega arith) _
             (paid_balances m a whole o (4000000000000000000 + 100000000000000 * k) (share_small m law a whole few o (omega arith)) roll (let w = s.weighs in omega arith) s.balances));
         given = omega (arith, s.given, g);
@@ -274,14 +271,14 @@ module _ {m : Meaning} {a : Addition} {whole : ℕ} {os : List RegisterEntry} {r
 module _ {m : Meaning} {a : Addition} {whole : ℕ} {os : List RegisterEntry} {roll₀ : List RollEntry} {strip₀ : List Line} {k n brought paid : ℕ} {roll : List RollEntry} {strip : List Line}
     (s : Outer m a whole os roll₀ strip₀ k n brought paid roll strip) where
   pub outer_done : length os ≤ k → length (lines_all m a whole os roll₀) ≤ length strip₀ →
-      (n ≡ length (lines_all m a whole os roll₀)) × (strip ≡ written (lines_all m a whole os roll₀) strip₀) × (roll ≡ each (paid_all m a whole os) roll₀) ×
+      (n ≡ length (lines_all m a whole os roll₀)) × (strip ≡ written (lines_all m a whole os roll₀) strip₀) × (roll ≡ map (paid_all m a whole os) roll₀) ×
       (brought ≡ total (object_contribution m a) os) × (paid ≡ sums (lines_all m a whole os roll₀))
   outer_done h room =
       let none : lines_all m a whole (drop k os) roll ≡ [] = at_drop_all (λ gs. lines_all m a whole gs roll) os k h in
       let w = all_written s.lines none room in (
         w.0,
         w.1,
-        sym (paid_none m a whole roll) ∙ sym (at_drop_all (λ gs. each (paid_all m a whole gs) roll) os k h) ∙ s.entries,
+        sym (paid_none m a whole roll) ∙ sym (at_drop_all (λ gs. map (paid_all m a whole gs) roll) os k h) ∙ s.entries,
         omega (arith, s.given, at_drop_all (total (object_contribution m a)) os k h),
         omega (arith, s.sum, ap sums none),
       )
@@ -303,9 +300,6 @@ module _ {m : Meaning} {a : Addition} {whole : ℕ} {os : List RegisterEntry} {r
 -- what the turn of an operator within that of an object knows
 module _ {m : Meaning} {a : Addition} {whole : ℕ} {os : List RegisterEntry} {roll₀ : List RollEntry} {strip₀ : List Line} {k at brought paid₁ : ℕ} {roll₁ : List RollEntry} {strip₁ : List Line} {o : RegisterEntry} {i n paid : ℕ} {roll : List RollEntry} {strip : List Line}
     (s : Outer m a whole os roll₀ strip₀ k at brought paid₁ roll₁ strip₁) (t : Inner m a whole o roll₁ strip₁ at paid₁ i n paid roll strip) (d : RollEntry) (h : i < length roll) where
-  pub turn_rate : rate_of (get_or roll i d).tranches ≤ 20
-  turn_rate = let r = rate_in s i d (there t d h) in let e = ap (λ (x : RollEntry). rate_of x.tranches) (read t d h) in omega arith
-
   pub turn_weight : (weight : ℕ) → weight ≡ weight_to m a.index (get_or roll i d).tranches → weight ≤ whole
   turn_weight weight is = let r = weight_within s i d (there t d h) in let e = ap (λ (x : RollEntry). weight_to m a.index x.tranches) (read t d h) in omega arith
 
@@ -324,8 +318,8 @@ module _ (m : Meaning) (a : Addition) (whole : ℕ) (os : List RegisterEntry) (r
   pub credits_are : lines_all m a whole os roll₀ ≡ credits m a os (members_of roll₀)
   credits_are = ap (λ w. lines_all m a w os roll₀) is
 
-  pub entries_are : each (paid_all m a whole os) roll₀ ≡ credited_roll m a os roll₀
-  entries_are = ap (λ w. each (paid_all m a w os) roll₀) is
+  pub entries_are : map (paid_all m a whole os) roll₀ ≡ credited_roll m a os roll₀
+  entries_are = ap (λ w. map (paid_all m a w os) roll₀) is
 
   pub unshared_is : (brought left : ℕ) → brought ≡ total (object_contribution m a) os → left ≡ cond (eqb whole 0) brought 0 → left ≡ left_unshared m a os (members_of roll₀)
   unshared_is brought left e f = f ∙ (λ k. cond (eqb (is k) 0) (e k) 0)

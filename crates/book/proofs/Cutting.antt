@@ -1,11 +1,13 @@
 -- A raise that is cut: the tranches of the parts add up, and rounding misses by less than one in each.
-use Rattle.std.proofs.Common.{◌≡◌, ℕ, suc, ◌+◌, ◌*◌, ◌<◌, ◌≤◌, Bool, true, false, cond, ◌&&◌, T, eqb, List, [], ◌∷◌, ◌++◌, length, Some, None, Option, sym, refl, ap, ◌∙◌, mul_assoc, suc-mul, mul_comm, add-mul, mul-le-mul, lt_of_mul-lt-mul_right, mul-zero, zero-mul, mul-add, arith}
+use Rattle.std.specs.Option.{unwrap_or}
+use Rattle.std.proofs.Common.{◌≡◌, ℕ, suc, ◌+◌, ◌*◌, ◌<◌, ◌≤◌, Bool, true, false, cond, ◌&&◌, T, eqb, List, [], ◌∷◌, ◌++◌, length, Some, None, Option, sym, refl, ap, ◌∙◌, mul_assoc, suc-mul, mul_comm, add-mul, mul-le-mul, lt_of_mul-lt-mul_right, mul-zero, zero-mul, mul-add, arith, find}
+use Rattle.std.specs.List.{AllByRecursion}
 use Rattle.std.proofs.lemmas.Bool.{eq-eqb}
 use Rattle.calendar.specs.Days.{is_date}
 use Rattle.tariff.specs.Meaning.{Meaning, Lawful, Near, Answered, CoefficientLimits}
 use Rattle.tariff.specs.declared.kinds.Kind.{Kind}
 use Rattle.tariff.specs.declared.kinds.Coefficient.{Coefficient}
-use Rattle.book.specs.Lists.{All, total, found, or_else}
+use Rattle.book.specs.Lists.{total}
 use Rattle.book.specs.Lines.{line, shows, unit_of, unit_shown}
 use Rattle.book.specs.Members.{Addition}
 use Rattle.book.specs.Billing.{price_at, coefficient_at, earlier, unit_price, unit_contribution, billed, bill}
@@ -48,7 +50,7 @@ module _ (m : Meaning) (law : Lawful m) (a d : ℕ) (pos : 0 < d) (small : d ≤
       let y : S < R + suc (length ks) = lt_of_mul-lt-mul_right d (omega arith) in
       record { over = omega arith; under = omega arith }
 
-pub limits_of : (c : Option Coefficient) → Answered CoefficientLimits c → CoefficientLimits (or_else (record { numerator = 0; denominator = 1 }) c)
+pub limits_of : (c : Option Coefficient) → Answered CoefficientLimits c → CoefficientLimits (unwrap_or c (record { numerator = 0; denominator = 1 }))
 limits_of None h = record { some = omega arith; small = omega arith; most = omega arith; four = omega arith }
 limits_of (Some c) h = h
 
@@ -113,7 +115,7 @@ module _ (m : Meaning) (a : Addition) (ob : ℕ) (o : RegisterEntry) (rest : Lis
   charge_step = go (eqb a.operator a.operator) (eqb o.object ob) (earlier o.installed a.date) (eq-eqb a.operator a.operator refl)
     where
       go : (same hit b : Bool) → same ≡ true →
-          unit_of (cond (same && hit) (Some charge_line) (found (shows Charge a.operator ob) (cond b (contribution_line ∷ []) [] ++ rest))) ≡ cond hit price (unit_shown Charge a.operator ob rest)
+          unit_of (cond (same && hit) (Some charge_line) (find (shows Charge a.operator ob) (cond b (contribution_line ∷ []) [] ++ rest))) ≡ cond hit price (unit_shown Charge a.operator ob rest)
       go true true b e = refl
       go true false true e = refl
       go true false false e = refl
@@ -123,12 +125,12 @@ module _ (m : Meaning) (a : Addition) (ob : ℕ) (o : RegisterEntry) (rest : Lis
       cond (earlier o.installed a.date) (cond (eqb o.object ob) levy (unit_shown Contribution a.operator ob rest)) (unit_shown Contribution a.operator ob rest)
   contribution_step = go (earlier o.installed a.date)
     where
-      inner : (same hit : Bool) → same ≡ true → unit_of (cond (same && hit) (Some contribution_line) (found (shows Contribution a.operator ob) rest)) ≡ cond hit levy (unit_shown Contribution a.operator ob rest)
+      inner : (same hit : Bool) → same ≡ true → unit_of (cond (same && hit) (Some contribution_line) (find (shows Contribution a.operator ob) rest)) ≡ cond hit levy (unit_shown Contribution a.operator ob rest)
       inner true true e = refl
       inner true false e = refl
       inner false hit e = let z : ◌≡◌ {A = ℕ} 0 1 = cc in absurd (omega arith)
 
-      go : (b : Bool) → unit_of (found (shows Contribution a.operator ob) (cond b (contribution_line ∷ []) [] ++ rest)) ≡
+      go : (b : Bool) → unit_of (find (shows Contribution a.operator ob) (cond b (contribution_line ∷ []) [] ++ rest)) ≡
           cond b (cond (eqb o.object ob) levy (unit_shown Contribution a.operator ob rest)) (unit_shown Contribution a.operator ob rest)
       go true = inner (eqb a.operator a.operator) (eqb o.object ob) (eq-eqb a.operator a.operator refl)
       go false = refl
@@ -144,7 +146,7 @@ module _ (m : Meaning) (law : Lawful m) (op date index ob : ℕ) (ks : List ℕ)
   abbrev all : ℕ
   all = total (λ k. k) ks
 
-  pub charges_apart : (os : List RegisterEntry) → All Sized os → Apart (length ks) (shown Charge os (total (λ k. k) ks)) (total (shown Charge os) ks)
+  pub charges_apart : (os : List RegisterEntry) → AllByRecursion Sized os → Apart (length ks) (shown Charge os (total (λ k. k) ks)) (total (shown Charge os) ks)
   charges_apart [] sized = let z = total_zero ks in record { over = omega arith; under = omega arith }
   charges_apart (o ∷ os) sized =
       let a = charge_step m (adding all) ob o (bill m (adding all) os) in
@@ -158,7 +160,7 @@ module _ (m : Meaning) (law : Lawful m) (op date index ob : ℕ) (ks : List ℕ)
       go true r = price_apart m law o.kind o.installed date ks few sized.0.1 today
       go false r = r
 
-  pub contributions_apart : (os : List RegisterEntry) → All Sized os → Apart (length ks) (shown Contribution os (total (λ k. k) ks)) (total (shown Contribution os) ks)
+  pub contributions_apart : (os : List RegisterEntry) → AllByRecursion Sized os → Apart (length ks) (shown Contribution os (total (λ k. k) ks)) (total (shown Contribution os) ks)
   contributions_apart [] sized = let z = total_zero ks in record { over = omega arith; under = omega arith }
   contributions_apart (o ∷ os) sized =
       let a = contribution_step m (adding all) ob o (bill m (adding all) os) in

@@ -1,6 +1,7 @@
 -- What tranches that are entered, and amounts that are credited, leave of the operators.
-use Rattle.std.proofs.Common.{◌≡◌, ℕ, suc, ◌+◌, ◌≤◌, Bool, true, false, cond, eqb, List, [], ◌∷◌, length, get_or, replicate, Some, refl, ap, ◌∙◌, arith, length-set}
-use Rattle.book.specs.Lists.{All, total, each, is_none}
+use Rattle.std.proofs.Common.{◌≡◌, ℕ, suc, ◌+◌, ◌≤◌, Bool, true, false, cond, eqb, List, [], ◌∷◌, length, get_or, replicate, Some, refl, ap, ◌∙◌, arith, length-set, map, is_none}
+use Rattle.std.specs.List.{AllByRecursion}
+use Rattle.book.specs.Lists.{total}
 use Rattle.book.specs.Members.{Member, member_of, members_of, member, tranches_found, tranches_of, Addition, subscribed, entered_roll, member_subscribed, entered_members}
 use Rattle.book.specs.Answers.{with_credit}
 use Rattle.book.specs.Tally.{member_credited}
@@ -17,7 +18,7 @@ members_entered a (e ∷ es) = go (eqb e.operator a.operator) (members_entered a
     go false r = ap (λ xs. member_of e ∷ xs) r
 
 pub members_credited : (g : List ℕ → ℕ) (roll : List RollEntry) →
-    members_of (each (λ e. with_credit (g e.tranches) e) roll) ≡ each (λ x. member_credited (g x.tranches) x) (members_of roll)
+    members_of (map (λ e. with_credit (g e.tranches) e) roll) ≡ map (λ x. member_credited (g x.tranches) x) (members_of roll)
 members_credited g [] = refl
 members_credited g (e ∷ es) = ap (λ xs. member_of (with_credit (g e.tranches) e) ∷ xs) (members_credited g es)
 
@@ -55,20 +56,20 @@ module _ (a : Addition) where
 abbrev pub Shaped : Member → Type 0
 Shaped x = length x.tranches ≡ 41
 
-pub entered_shaped : (a : Addition) (xs : List Member) → All Shaped xs → All Shaped (entered_members a xs)
+pub entered_shaped : (a : Addition) (xs : List Member) → AllByRecursion Shaped xs → AllByRecursion Shaped (entered_members a xs)
 entered_shaped a [] h = (length-set (replicate 41 0) a.index (get_or (replicate 41 0) a.index 0 + a.tranches), tt)
 entered_shaped a (x ∷ xs) h = go (eqb x.operator a.operator) (entered_shaped a xs h.1)
   where
-    go : (b : Bool) → All Shaped (entered_members a xs) → All Shaped (cond b (member_subscribed a x ∷ xs) (x ∷ entered_members a xs))
+    go : (b : Bool) → AllByRecursion Shaped (entered_members a xs) → AllByRecursion Shaped (cond b (member_subscribed a x ∷ xs) (x ∷ entered_members a xs))
     go true r = (length-set x.tranches a.index (get_or x.tranches a.index 0 + a.tranches) ∙ h.0, h.1)
     go false r = (h.0, r)
 
 -- credits change neither who is a member nor the tranches of one
 module _ (g : List ℕ → ℕ) where
   abbrev pub paid : List Member → List Member
-  paid xs = each (λ x. member_credited (g x.tranches) x) xs
+  paid xs = map (λ x. member_credited (g x.tranches) x) xs
 
-  pub paid_shaped : (xs : List Member) → All Shaped xs → All Shaped (paid xs)
+  pub paid_shaped : (xs : List Member) → AllByRecursion Shaped xs → AllByRecursion Shaped (paid xs)
   paid_shaped [] h = tt
   paid_shaped (x ∷ xs) h = (h.0, paid_shaped xs h.1)
 

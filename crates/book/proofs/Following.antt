@@ -1,11 +1,11 @@
 -- What an accepted commitment or raise leaves for its share-out.
 use Rattle.std.proofs.Common.{◌≡◌, ℕ, zero, suc, ◌+◌, ◌≤◌, Bool, true, false, cond, ◌&&◌, eqb, List, [], ◌∷◌, length, get_or, replicate, Some, None, Ok, sym, refl, ap, ◌∙◌, subst, arith, get_or-set_other, get_or-set_same}
+use Rattle.std.specs.List.{AllByRecursion}
 use Rattle.std.proofs.lemmas.Bool.{eqb-true, eqb-false, ne_eqb, eq-eqb, lt-ltb, le-ltb, ltb-false}
 use Rattle.refusal.specs.Checks.{first, unless}
 use Rattle.refusal.specs.declared.Refusal.TheVariants.{StripTooShort}
 use Rattle.calendar.specs.Days.{index_of}
 use Rattle.tariff.specs.Meaning.{Meaning}
-use Rattle.book.specs.Lists.{All}
 use Rattle.book.specs.Members.{Member, member, tranches_found, Addition, more_tranches, member_subscribed, new_member, entered_members, whole_weight}
 use Rattle.book.specs.Sharing.{payout}
 use Rattle.book.specs.Zone.{Tables, counted_register, counted_members, Effect, dated}
@@ -68,7 +68,7 @@ module _ (a : Addition) (few : a.index ≤ 40) where
   abbrev gain : ℕ → ℕ → ℕ
   gain op i = cond (eqb a.operator op && eqb a.index i) a.tranches 0
 
-  entered_in : (op i : ℕ) (xs : List Member) → All Shaped xs → tranches_in (entered_members a xs) op i ≡ tranches_in xs op i + gain op i
+  entered_in : (op i : ℕ) (xs : List Member) → AllByRecursion Shaped xs → tranches_in (entered_members a xs) op i ≡ tranches_in xs op i + gain op i
   entered_in op i [] s = go (eqb a.operator op)
     where
       go : (b : Bool) → get_or (tranches_found (cond b (Some (new_member a)) None)) i 0 ≡ 0 + cond (b && eqb a.index i) a.tranches 0
@@ -97,7 +97,7 @@ billed_is_entered m law calls s life day phase v places billed e room after e' =
     let add : Addition = added s.figures day s.tables v in
     let few : add.index ≤ 40 = ltb-false 40 (index_of day v.date) a.0.1.1.1.0 in
     let roll = clear_left (roll_checks s.figures s.tables v) _ a.0.1.1.1.1 in
-    let shaped : All Shaped (counted_members s.figures s.tables) = subst (All Shaped) (sym M.members) M.bounds.shaped in
+    let shaped : AllByRecursion Shaped (counted_members s.figures s.tables) = subst (AllByRecursion Shaped) (sym M.members) M.bounds.shaped in
     let h = subst (λ (x : Effect). settling m x.state.figures day x.state.tables room v ≡ Ok after) (sym a.1) e' in
     let b = accepted_is (settling_checks m (billing_effect m s.figures day s.tables v).state.figures day s.tables room v) (settling_effect m (billing_effect m s.figures day s.tables v).state.figures day s.tables v) after h in
     let pays : List ℕ → ℕ = λ ts. payout m add (whole_weight m add.index (counted_members s.figures s.tables)) (counted_register s.figures s.tables) ts in

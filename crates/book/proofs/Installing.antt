@@ -1,13 +1,14 @@
 -- What passed checks tell of an object that is entered, and what entering it leads to.
 use Rattle.std.proofs.Common.{◌≡◌, ℕ, ◌+◌, ◌<◌, ◌≤◌, Bool, true, false, cond, eqb, ltb, leb, List, [], ◌∷◌, ◌++◌, length, take, set, Some, Ok, Result, sym, refl, ap, ◌∙◌, arith}
-use Rattle.std.proofs.lemmas.List.{length-take-le, length-append, take_at}
+use Rattle.std.specs.List.{list_any}
+use Rattle.std.proofs.lemmas.List.{length-take-le, length-append, take_at, length-map}
 use Rattle.std.proofs.lemmas.Bool.{or_parts, leb-false, ltb-false}
 use Rattle.refusal.specs.Checks.{Check, ◌⇒◌, first, unless, passing, in_turn}
 use Rattle.refusal.specs.declared.Refusal.{Refusal}
 use Rattle.refusal.proofs.First.{in_turn_is}
 use Rattle.refusal.specs.declared.Refusal.TheVariants.{StripTooShort}
 use Rattle.tariff.specs.Meaning.{Meaning}
-use Rattle.book.specs.Lists.{any, one_of, written}
+use Rattle.book.specs.Lists.{one_of, written}
 use Rattle.book.specs.Members.{member_of}
 use Rattle.book.specs.Billing.{charged}
 use Rattle.book.specs.Zone.{Tables, counted_roll, counted_register, counted_members, launched, Effect, dated, counting_objects}
@@ -17,7 +18,6 @@ use Rattle.book.specs.declared.entries.RegisterEntry.{RegisterEntry}
 use Rattle.book.specs.declared.lines.Line.{Line}
 use Rattle.book.specs.declared.zone.Figures.{Figures}
 use Rattle.book.proofs.Passing.{clear_left, clear_right, accepted_is}
-use Rattle.book.proofs.Totals.{length_each}
 use Rattle.book.proofs.Admitting.{Admitted, admitted}
 use Rattle.book.proofs.Subscribing.{last_written}
 
@@ -37,7 +37,7 @@ module _ (m : Meaning) (f : Figures) (launch_date : ℕ) (t : Tables) (places : 
 
   -- each counted operator gets a line
   charged_count : f.operators ≤ length t.roll → length (charged m o (counted_members f t)) ≡ f.operators
-  charged_count long = length_each _ (counted_members f t) ∙ length_each member_of (counted_roll f t) ∙ length-take-le f.operators t.roll long
+  charged_count long = length-map (counted_members f t) _ ∙ length-map (counted_roll f t) member_of ∙ length-take-le f.operators t.roll long
 
   -- so the operators may be counted in place of their lines: where the tables are not lawful it does not matter
   pub alike : first (checks_for f.operators) ≡ first (installation_checks m f launch_date t places o)
@@ -62,7 +62,7 @@ module _ (m : Meaning) (f : Figures) (launch_date : ℕ) (t : Tables) (places : 
       let after_date = clear_right (date_checks f o.installed) (later_checks lines_due) all.1 in
       let entry = clear_left (register_checks f t o) (last_checks lines_due) after_date.1 in
       let last = clear_right (register_checks f t o) (last_checks lines_due) after_date.1 in
-      let number = (or_parts (eqb o.object 0) (any (λ x. eqb x.object o.object) (counted_register f t)) entry.0).0 in
+      let number = (or_parts (eqb o.object 0) (list_any (λ x. eqb x.object o.object) (counted_register f t)) entry.0).0 in
       let full = or_parts (leb 1024 f.objects) (leb (length t.register) f.objects) entry.1.1.0 in
       record {
         tables_in = admitted f t all.0;

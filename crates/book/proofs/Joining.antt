@@ -1,6 +1,6 @@
 -- Tranches that pass the checks of the roll find a place on it.
 use Rattle.std.proofs.Common.{◌≡◌, ℕ, ◌≤◌, leb, List, [], length, Ok, sym, ap, ◌∙◌, subst, arith}
-use Rattle.std.proofs.lemmas.List.{length-take-le}
+use Rattle.std.proofs.lemmas.List.{length-take-le, length-map}
 use Rattle.std.proofs.lemmas.Bool.{or_parts, leb-false}
 use Rattle.refusal.specs.Checks.{passing}
 use Rattle.book.specs.Lists.{written}
@@ -16,7 +16,6 @@ use Rattle.book.specs.declared.zone.Change.TheVariants.{Commitment, Raise}
 use Rattle.book.proofs.Passing.{Clear, inside, accepted_is, clear_right}
 use Rattle.book.proofs.Admitting.{Admitted, admitted}
 use Rattle.book.proofs.Entering.{members_entered, entered_length, entered_there}
-use Rattle.book.proofs.Totals.{length_each}
 
 module _ (f : Figures) (t : Tables) (v : Event) (index : ℕ) (long : f.operators ≤ length t.roll) where
   abbrev more : Addition
@@ -24,10 +23,10 @@ module _ (f : Figures) (t : Tables) (v : Event) (index : ℕ) (long : f.operator
 
   -- how many entries there are then
   counted_is : length (counted_members f t) ≡ f.operators
-  counted_is = length_each member_of (counted_roll f t) ∙ length-take-le f.operators t.roll long
+  counted_is = length-map (counted_roll f t) member_of ∙ length-take-le f.operators t.roll long
 
   entered_is : length (entered_roll more (counted_roll f t)) ≡ length (entered_members more (counted_members f t))
-  entered_is = sym (length_each member_of (entered_roll more (counted_roll f t))) ∙ ap length (members_entered more (counted_roll f t))
+  entered_is = sym (length-map (entered_roll more (counted_roll f t)) member_of) ∙ ap length (members_entered more (counted_roll f t))
 
   by_change : (change : Change) → Clear (change_checks change f t v) → f.operators ≤ 16 → (length (entered_roll more (counted_roll f t)) ≤ 16) × (length (entered_roll more (counted_roll f t)) ≤ length t.roll)
   by_change Commitment clear few =

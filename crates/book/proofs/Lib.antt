@@ -18,9 +18,7 @@ pub mod Working
 pub mod Lawful
 pub mod Witnessing
 pub mod Least
-pub mod Seeking
 pub mod Rolls
-pub mod Registers
 pub mod Living
 pub mod Soundness
 pub mod Weighing

@@ -1,9 +1,11 @@
 -- Every call of a life keeps zone and tables as the tally has them, and the tally within its bounds.
-use Rattle.std.proofs.Common.{◌≡◌, ℕ, ◌+◌, ◌-◌, ◌*◌, ◌<◌, ◌≤◌, false, leb, List, [], ◌∷◌, ◌++◌, length, drop, Some, None, Option, sym, refl, ap, ◌∙◌, subst, arith, length-append, length-take}
+use Rattle.std.proofs.Common.{◌≡◌, ℕ, ◌+◌, ◌-◌, ◌*◌, ◌<◌, ◌≤◌, false, leb, List, [], ◌∷◌, ◌++◌, length, drop, Some, None, Option, sym, refl, ap, ◌∙◌, subst, arith, length-append, length-take, is_none}
+use Rattle.std.proofs.lemmas.List.{length-map}
+use Rattle.std.specs.List.{AllByRecursion}
 use Rattle.std.proofs.lemmas.Bool.{leb-false, ltb-false, or_parts}
 use Rattle.calendar.specs.Days.{index_of}
 use Rattle.tariff.specs.Meaning.{Meaning, Lawful}
-use Rattle.book.specs.Lists.{All, total, one_of, is_none}
+use Rattle.book.specs.Lists.{total, one_of}
 use Rattle.book.specs.Members.{Member, member_of, members_of, rate_of, member, present_rate, Addition, addition, entered_members, whole_weight}
 use Rattle.book.specs.Sharing.{object_contribution, payout, credits, left_unshared}
 use Rattle.book.specs.Zone.{Tables, counted_roll, counted_register, counted_members, Phase, preparing, launched, levied, State, Answer, state_after}
@@ -20,7 +22,7 @@ use Rattle.book.specs.declared.zone.Figures.{Figures}
 use Rattle.book.specs.declared.zone.Change.{Change}
 use Rattle.book.specs.declared.zone.Change.TheVariants.{Commitment, Raise}
 use Rattle.book.specs.declared.zone.Event.{Event}
-use Rattle.book.proofs.Totals.{all_also, all_of, length_each, take_front}
+use Rattle.book.proofs.Totals.{all_also, all_of, take_front}
 use Rattle.book.proofs.Passing.{Clear, clear_left, clear_right, settles, none_of, all_fail, inside, real_of}
 use Rattle.book.proofs.Entering.{members_entered, entered_balances, entered_length, entered_there, Shaped, entered_shaped, paid_shaped, paid_tranches, paid_there}
 use Rattle.book.proofs.Amounts.{Rated, Sized}
@@ -45,8 +47,8 @@ InTime (levied day v) = index_of day v.date ≤ 40
 pub record Bounds (T : Tally) : Type 0 where
   pub few : length T.members ≤ 16
   pub few_objects : length T.objects ≤ 1024
-  pub shaped : All Shaped T.members
-  pub rated : All Rated T.members
+  pub shaped : AllByRecursion Shaped T.members
+  pub rated : AllByRecursion Rated T.members
   pub credited : T.totals.credited ≡ total (λ x. x.balance) T.members
   pub contributed : T.totals.contributed ≤ 5120000000000000 * rates_of T.members
   pub lines : T.totals.credit_lines ≤ 16384 * rates_of T.members
@@ -73,10 +75,10 @@ sized_object : (o : RegisterEntry) → one_of (object_faults o) ≡ false → Si
 sized_object o h = ((inside 1 o.dwellings 10000 (all_fail (object_faults o) h).1.1.0).1, real_of o.installed (all_fail (object_faults o) h).1.0)
 
 module _ (f : Figures) (t : Tables) where
-  pub members_rated : one_of (table_faults f t) ≡ false → All Rated (counted_members f t)
+  pub members_rated : one_of (table_faults f t) ≡ false → AllByRecursion Rated (counted_members f t)
   members_rated ok = all_of Rated member_of (counted_roll f t) (all_also rated_entry (counted_roll f t) (none_of (λ e. one_of (entry_faults e)) (counted_roll f t) (all_fail (table_faults f t) ok).1.1.0))
 
-  pub objects_sized : one_of (table_faults f t) ≡ false → All Sized (counted_register f t)
+  pub objects_sized : one_of (table_faults f t) ≡ false → AllByRecursion Sized (counted_register f t)
   objects_sized ok = all_also sized_object (counted_register f t) (none_of (λ o. one_of (object_faults o)) (counted_register f t) (all_fail (table_faults f t) ok).1.1.1.0)
 
   pub rate_given : (v : Event) → Clear (roll_checks f t v) → (1 ≤ v.rate) × (v.rate ≤ 20)
@@ -92,7 +94,7 @@ module _ (f : Figures) (t : Tables) where
       go Raise c = let r = leb-false v.rate (present_rate v.operator (counted_members f t)) c.1.0 in omega arith
 
   pub length_counted : length (counted_members f t) ≤ f.operators
-  length_counted = let l = length_each member_of (counted_roll f t) in let k = length-take f.operators t.roll in omega arith
+  length_counted = let l = length-map (counted_roll f t) member_of in let k = length-take f.operators t.roll in omega arith
 
   -- an event that passes leaves at most 16 operators
   pub short_enough : (v : Event) (a : Addition) → a.operator ≡ v.operator → (xs : List Member) → length xs ≡ length (counted_members f t) →
@@ -128,7 +130,7 @@ module _ (m : Meaning) (law : Lawful m) (T : Tally) (f : Figures) (t : Tables) (
       let given = rate_given f t v passes in
       let same : members_of (subscribed_roll f t v) ≡ entered_members a T.members =
       members_entered (addition 0 v (counted_members f t)) (counted_roll f t) ∙ ap (λ xs. entered_members (addition 0 v xs) xs) M.members in
-      let counted : length (subscribed_roll f t v) ≡ length (entered_members a T.members) = sym (length_each member_of (subscribed_roll f t v)) ∙ ap length same in
+      let counted : length (subscribed_roll f t v) ≡ length (entered_members a T.members) = sym (length-map (subscribed_roll f t v) member_of) ∙ ap length same in
       let grow = rates_grow a (omega arith) T.members B.shaped in
       let bal = entered_balances a T.members in
       let most = present_most v.operator T.members B.rated in
@@ -271,7 +273,7 @@ module _ (m : Meaning) (law : Lawful m) (T : Tally) (f : Figures) (t : Tables) (
         let given = rate_given f t v passes in
         let some : 0 < now_added.tranches = subst (λ (xs : List Member). 0 < v.rate - present_rate v.operator xs) M.members (some_added f t v passes) in
         let few : now_added.tranches ≤ 20 = omega arith in
-        let sized : All Sized T.objects = subst (All Sized) M.objects (objects_sized f t ok.0) in
+        let sized : AllByRecursion Sized T.objects = subst (AllByRecursion Sized) M.objects (objects_sized f t ok.0) in
         let grow = rates_grow now_added M.in_time (credited_members m now_added T.objects T.members) (paid_shaped (λ ts. payout m now_added whole T.objects ts) T.members B.shaped) in
         let keep = paid_rates (λ ts. payout m now_added whole T.objects ts) T.members in
         let bal = balances_grow m law now_added few T.objects sized T.members in
@@ -282,7 +284,7 @@ module _ (m : Meaning) (law : Lawful m) (T : Tally) (f : Figures) (t : Tables) (
         let due = dues_most m law now_added few T.objects sized T.members B.few B.few_objects in
         record {
           few = short_enough f t v now_added refl (credited_members m now_added T.objects T.members)
-              (length_each _ T.members ∙ ap length (sym M.members))
+              (length-map T.members _ ∙ ap length (sym M.members))
               (paid_there (λ ts. payout m now_added whole T.objects ts) v.operator T.members ∙ ap (λ xs. is_none (member v.operator xs)) (sym M.members))
               (let l = ap length M.members in let q = B.few in omega arith) passes;
           few_objects = B.few_objects;
@@ -298,7 +300,7 @@ module _ (m : Meaning) (law : Lawful m) (T : Tally) (f : Figures) (t : Tables) (
     settling_mirrors = record {
       members = ap members_of (take_front (settled_roll m f day t v) (drop (length (settled_roll m f day t v)) t.roll)) ∙ same_members;
       objects = M.objects;
-      operators_counted = sym (length_each member_of (settled_roll m f day t v)) ∙ ap length same_members;
+      operators_counted = sym (length-map (settled_roll m f day t v) member_of) ∙ ap length same_members;
       objects_counted = M.objects_counted;
       totals = same_totals;
       phase = (M.phase.0, refl);

@@ -1,10 +1,11 @@
 -- What an answer says of the conditions that its call passed or met.
-use Rattle.std.proofs.Common.{◌≡◌, ℕ, ◌≤◌, Bool, true, false, cond, not, T, leb, List, [], ◌∷◌, ◌++◌, Some, None, Ok, Err, Option, Result, refl, arith}
+use Rattle.std.proofs.Common.{◌≡◌, ℕ, ◌≤◌, Bool, true, false, cond, not, ◌||◌, T, leb, List, [], ◌∷◌, ◌++◌, Some, None, Ok, Err, Option, Result, refl, arith}
+use Rattle.std.specs.List.{AllByRecursion, list_any}
 use Rattle.std.proofs.lemmas.Bool.{not-false, and_parts, leb-true}
 use Rattle.refusal.specs.Checks.{Check, first, unless}
 use Rattle.refusal.specs.declared.Refusal.{Refusal}
 use Rattle.calendar.specs.Days.{is_date, within}
-use Rattle.book.specs.Lists.{All, any, one_of}
+use Rattle.book.specs.Lists.{one_of}
 
 -- no condition holds
 abbrev pub Clear : List Check → Type 0
@@ -49,11 +50,11 @@ accepted_is cs effect e h = go (first cs) refl h
     go (Some r) q h = let z : ◌≡◌ {A = ℕ} 0 1 = cc in absurd (omega arith)
 
 -- every element fails a test that none passes
-pub none_of : {A : Type 0} (test : A → Bool) (xs : List A) → any test xs ≡ false → All (λ x. test x ≡ false) xs
+pub none_of : {A : Type 0} (test : A → Bool) (xs : List A) → list_any test xs ≡ false → AllByRecursion (λ x. test x ≡ false) xs
 none_of test [] h = tt
 none_of test (x ∷ xs) h = go (test x) refl h (none_of test xs)
   where
-    go : (b : Bool) → test x ≡ b → cond b true (any test xs) ≡ false → (any test xs ≡ false → All (λ x. test x ≡ false) xs) → (test x ≡ false) × All (λ x. test x ≡ false) xs
+    go : (b : Bool) → test x ≡ b → (b || list_any test xs) ≡ false → (list_any test xs ≡ false → AllByRecursion (λ x. test x ≡ false) xs) → (test x ≡ false) × AllByRecursion (λ x. test x ≡ false) xs
     go true q k r = let z : ◌≡◌ {A = ℕ} 0 1 = cc in absurd (omega arith)
     go false q k r = (q, r k)
 

@@ -1,11 +1,12 @@
 -- How large the numbers of a life can grow.
-use Rattle.std.proofs.Common.{◌≡◌, ℕ, zero, suc, ◌+◌, ◌*◌, ◌<◌, ◌≤◌, Bool, true, false, cond, T, eqb, List, [], ◌∷◌, length, Some, Ok, sym, refl, ap, subst, add-mul, mul-le-mul, lt_of_mul-lt-mul_right, one-mul, arith, length-take}
+use Rattle.std.proofs.Common.{◌≡◌, ℕ, zero, suc, ◌+◌, ◌*◌, ◌<◌, ◌≤◌, Bool, true, false, cond, T, eqb, List, [], ◌∷◌, length, Some, Ok, sym, refl, ap, subst, add-mul, mul-le-mul, lt_of_mul-lt-mul_right, one-mul, arith, length-take, flat_map, map}
+use Rattle.std.specs.List.{AllByRecursion}
 use Rattle.std.proofs.lemmas.Bool.{ltb-false, eqb-true, eqb-false}
 use Rattle.calendar.specs.Days.{is_date}
 use Rattle.tariff.specs.Meaning.{Meaning, Lawful, CoefficientLimits}
 use Rattle.tariff.specs.declared.kinds.Kind.{Kind}
 use Rattle.book.specs.Limits.{most_amount}
-use Rattle.book.specs.Lists.{All, total, joined, each, one_of}
+use Rattle.book.specs.Lists.{total, one_of}
 use Rattle.book.specs.Lines.{line}
 use Rattle.book.specs.Members.{Member, member_of, rate_of, weight_to, whole_weight, Addition, entered_members, member_subscribed}
 use Rattle.book.specs.Billing.{price_at, coefficient_at, earlier, unit_price, unit_contribution, billed, bill, charged}
@@ -25,7 +26,7 @@ use Rattle.book.specs.declared.lines.Nature.TheVariants.{Charge, Contribution, C
 use Rattle.book.specs.declared.zone.Totals.{Totals}
 use Rattle.book.specs.declared.zone.Figures.{Figures}
 use Rattle.book.specs.declared.zone.Event.{Event}
-use Rattle.book.proofs.Totals.{all_of, all_also, all_joined, parts_most, total_most, total_each, total_swap}
+use Rattle.book.proofs.Totals.{all_of, all_also, all_flat_map, parts_most, total_most, total_map, total_swap}
 use Rattle.book.proofs.Passing.{clear_left, accepted_is, inside, real_of, all_fail, none_of}
 use Rattle.book.proofs.Entering.{Shaped, paid}
 use Rattle.book.proofs.Amounts.{Rated, Sized, price_most, unit_most, amount_most, weights_most}
@@ -62,18 +63,18 @@ unit_price_most m law kind installed date k real today few = go (earlier install
 
 -- the lines of a bill
 module _ (m : Meaning) (law : Lawful m) (a : Addition) (few : a.tranches ≤ 20) (today : T (is_date a.date)) where
-  billed_fits : (o : RegisterEntry) → Sized o → All Fits (billed m a o)
+  billed_fits : (o : RegisterEntry) → Sized o → AllByRecursion Fits (billed m a o)
   billed_fits o sized = (line_fits Charge a.operator o.object _ o.dwellings (let p = unit_price_most m law o.kind o.installed a.date a.tranches sized.1 today few in omega arith) sized.0, go (earlier o.installed a.date))
     where
-      go : (b : Bool) → All Fits (cond b (line Contribution a.operator o.object (unit_contribution m o.kind o.installed a.date a.tranches) o.dwellings ∷ []) [])
+      go : (b : Bool) → AllByRecursion Fits (cond b (line Contribution a.operator o.object (unit_contribution m o.kind o.installed a.date a.tranches) o.dwellings ∷ []) [])
       go true = (line_fits Contribution a.operator o.object _ o.dwellings (let p = unit_most m law o.kind o.installed a.date a.tranches sized.1 few in omega arith) sized.0, tt)
       go false = tt
 
-  pub bill_fits : (os : List RegisterEntry) → All Sized os → All Fits (bill m a os)
-  bill_fits os sized = all_joined Fits (billed m a) os (all_also billed_fits os sized)
+  pub bill_fits : (os : List RegisterEntry) → AllByRecursion Sized os → AllByRecursion Fits (bill m a os)
+  bill_fits os sized = all_flat_map Fits (billed m a) os (all_also billed_fits os sized)
 
 -- the lines of an object that is entered
-pub charged_fits : (m : Meaning) → Lawful m → (o : RegisterEntry) → Sized o → (xs : List Member) → All Rated xs → All Fits (charged m o xs)
+pub charged_fits : (m : Meaning) → Lawful m → (o : RegisterEntry) → Sized o → (xs : List Member) → AllByRecursion Rated xs → AllByRecursion Fits (charged m o xs)
 charged_fits m law o sized [] rated = tt
 charged_fits m law o sized (x ∷ xs) rated =
     let p : price_at m o.kind o.installed * rate_of x.tranches ≤ 500000000 * 20 = mul-le-mul (price_most m law o.kind o.installed sized.1) rated.0 in
@@ -94,67 +95,67 @@ module _ (m : Meaning) (law : Lawful m) (a : Addition) (few : a.tranches ≤ 20)
       let u : 1 * w ≡ w = one-mul w in
       let s : m.rounded (suc n * suc v) w < suc n + 1 = lt_of_mul-lt-mul_right w (omega arith) in omega arith
 
-  credit_fits : (o : RegisterEntry) → Sized o → (x : Member) → weight_to m a.index x.tranches ≤ w → All Fits (credit m a w o x)
+  credit_fits : (o : RegisterEntry) → Sized o → (x : Member) → weight_to m a.index x.tranches ≤ w → AllByRecursion Fits (credit m a w o x)
   credit_fits o sized x light = go (serves (to_share m a o) (weight_to m a.index x.tranches)) refl
     where
       go : (b : Bool) → serves (to_share m a o) (weight_to m a.index x.tranches) ≡ b →
-          All Fits (cond b (line Credit x.operator o.object (unit_share m (to_share m a o) (weight_to m a.index x.tranches) w) 1 ∷ []) [])
+          AllByRecursion Fits (cond b (line Credit x.operator o.object (unit_share m (to_share m a o) (weight_to m a.index x.tranches) w) 1 ∷ []) [])
       go true e =
           let n = amount_most m law a few o sized in
           let s = share_most (to_share m a o) (weight_to m a.index x.tranches) (omega arith) light e in
           (line_fits Credit x.operator o.object (unit_share m (to_share m a o) (weight_to m a.index x.tranches) w) 1 (omega arith) (omega arith), tt)
       go false e = tt
 
-  credit_row_fits : (xs : List Member) → All (λ x. weight_to m a.index x.tranches ≤ w) xs → (o : RegisterEntry) → Sized o → All Fits (joined (credit m a w o) xs)
-  credit_row_fits xs light o sized = all_joined Fits (credit m a w o) xs (all_also (credit_fits o sized) xs light)
+  credit_row_fits : (xs : List Member) → AllByRecursion (λ x. weight_to m a.index x.tranches ≤ w) xs → (o : RegisterEntry) → Sized o → AllByRecursion Fits (flat_map (credit m a w o) xs)
+  credit_row_fits xs light o sized = all_flat_map Fits (credit m a w o) xs (all_also (credit_fits o sized) xs light)
 
-pub credits_fit : (m : Meaning) → Lawful m → (a : Addition) → a.tranches ≤ 20 → (os : List RegisterEntry) → All Sized os → (xs : List Member) → All Shaped xs → All Rated xs → length xs ≤ 16 → All Fits (credits m a os xs)
+pub credits_fit : (m : Meaning) → Lawful m → (a : Addition) → a.tranches ≤ 20 → (os : List RegisterEntry) → AllByRecursion Sized os → (xs : List Member) → AllByRecursion Shaped xs → AllByRecursion Rated xs → length xs ≤ 16 → AllByRecursion Fits (credits m a os xs)
 credits_fit m law a few os sized xs shaped rated short =
-    all_joined Fits (λ o. joined (credit m a (whole_weight m a.index xs) o) xs) os
+    all_flat_map Fits (λ o. flat_map (credit m a (whole_weight m a.index xs) o) xs) os
     (all_also (credit_row_fits m law a few (whole_weight m a.index xs) (weights_most m law a.index xs shaped rated short) xs
     (parts_most (λ x. weight_to m a.index x.tranches) (whole_weight m a.index xs) xs (omega arith))) os sized)
 
 -- the lines of every accepted call
-module _ (m : Meaning) (law : Lawful m) (f : Figures) (t : Tables) (places : ℕ) (shaped : All Shaped (counted_members f t)) (short : length (counted_members f t) ≤ 16) where
-  pub billing_fits : (day : ℕ) (v : Event) (effect : Effect) → billing m f day t places v ≡ Ok effect → All Fits effect.lines
+module _ (m : Meaning) (law : Lawful m) (f : Figures) (t : Tables) (places : ℕ) (shaped : AllByRecursion Shaped (counted_members f t)) (short : length (counted_members f t) ≤ 16) where
+  pub billing_fits : (day : ℕ) (v : Event) (effect : Effect) → billing m f day t places v ≡ Ok effect → AllByRecursion Fits effect.lines
   billing_fits day v effect e =
       let a = accepted_is (billing_checks m f day t places v) (billing_effect m f day t v) effect e in
       let given = rate_given f t v (clear_left (roll_checks f t v) _ a.0.1.1.1.1) in
-      subst (λ (x : Effect). All Fits x.lines) a.1
+      subst (λ (x : Effect). AllByRecursion Fits x.lines) a.1
       (bill_fits m law (added f day t v) (omega arith) (real_of v.date a.0.1.0) (counted_register f t) (objects_sized f t a.0.0))
 
-  pub installation_fits : (day : ℕ) (o : RegisterEntry) (effect : Effect) → installation m f day t places o ≡ Ok effect → All Fits effect.lines
+  pub installation_fits : (day : ℕ) (o : RegisterEntry) (effect : Effect) → installation m f day t places o ≡ Ok effect → AllByRecursion Fits effect.lines
   installation_fits day o effect e =
       let a = accepted_is (installation_checks m f day t places o) (installation_effect m f day t o) effect e in
-      subst (λ (x : Effect). All Fits x.lines) a.1
+      subst (λ (x : Effect). AllByRecursion Fits x.lines) a.1
       (charged_fits m law o ((inside 1 o.dwellings 10000 a.0.1.1.1.1.1.0).1, real_of o.installed a.0.1.0) (counted_members f t) (members_rated f t a.0.0))
 
-  pub settling_fits : (day : ℕ) (v : Event) (effect : Effect) → settling m f day t places v ≡ Ok effect → All Fits effect.lines
+  pub settling_fits : (day : ℕ) (v : Event) (effect : Effect) → settling m f day t places v ≡ Ok effect → AllByRecursion Fits effect.lines
   settling_fits day v effect e =
       let a = accepted_is (settling_checks m f day t places v) (settling_effect m f day t v) effect e in
       let given = rate_given f t v (clear_left (roll_checks f t v) _ a.0.1) in
-      subst (λ (x : Effect). All Fits x.lines) a.1
+      subst (λ (x : Effect). AllByRecursion Fits x.lines) a.1
       (credits_fit m law (added f day t v) (omega arith) (counted_register f t) (objects_sized f t a.0.0) (counted_members f t) shaped (members_rated f t a.0.0) short)
 
-  subscription_fits : (v : Event) (effect : Effect) → subscription f t v ≡ Ok effect → All Fits effect.lines
+  subscription_fits : (v : Event) (effect : Effect) → subscription f t v ≡ Ok effect → AllByRecursion Fits effect.lines
   subscription_fits v effect e =
-      subst (λ (x : Effect). All Fits x.lines) (accepted_is (subscription_checks f t v) (subscription_effect f t v) effect e).1 tt
+      subst (λ (x : Effect). AllByRecursion Fits x.lines) (accepted_is (subscription_checks f t v) (subscription_effect f t v) effect e).1 tt
 
-  launching_fits : (date : ℕ) (effect : Effect) → launching f t date ≡ Ok effect → All Fits effect.lines
+  launching_fits : (date : ℕ) (effect : Effect) → launching f t date ≡ Ok effect → AllByRecursion Fits effect.lines
   launching_fits date effect e =
-      subst (λ (x : Effect). All Fits x.lines) (accepted_is (launching_checks f t date) (launching_effect f t date) effect e).1 tt
+      subst (λ (x : Effect). AllByRecursion Fits x.lines) (accepted_is (launching_checks f t date) (launching_effect f t date) effect e).1 tt
 
-  event_fits : (v : Event) (p : Phase) (effect : Effect) → answer_to_event m f t places v p ≡ Some (Ok effect) → All Fits effect.lines
+  event_fits : (v : Event) (p : Phase) (effect : Effect) → answer_to_event m f t places v p ≡ Some (Ok effect) → AllByRecursion Fits effect.lines
   event_fits v preparing effect e = subscription_fits v effect (given_is _ _ e)
   event_fits v (launched day) effect e = billing_fits day v effect (given_is _ _ e)
   event_fits v (levied day w) effect e = none_given _ _ e
 
-  object_fits : (o : RegisterEntry) (p : Phase) (effect : Effect) → answer_to_object m f t places o p ≡ Some (Ok effect) → All Fits effect.lines
+  object_fits : (o : RegisterEntry) (p : Phase) (effect : Effect) → answer_to_object m f t places o p ≡ Some (Ok effect) → AllByRecursion Fits effect.lines
   object_fits o preparing effect e = none_given _ _ e
   object_fits o (launched day) effect e = installation_fits day o effect (given_is _ _ e)
   object_fits o (levied day w) effect e = none_given _ _ e
 
-  pub lines_fit : (call : Call) (p : Phase) (effect : Effect) → answer_to m (record { figures = f; phase = p; tables = t }) places call ≡ Some (Ok effect) → All Fits effect.lines
+  pub lines_fit : (call : Call) (p : Phase) (effect : Effect) → answer_to m (record { figures = f; phase = p; tables = t }) places call ≡ Some (Ok effect) → AllByRecursion Fits effect.lines
   lines_fit (commitment d o k) p effect e = event_fits (commitment_event d o k) p effect e
   lines_fit (raise d o k) p effect e = event_fits (raise_event d o k) p effect e
   lines_fit (launch d) preparing effect e = launching_fits d effect (given_is _ _ e)
@@ -178,7 +179,7 @@ every_life_fits m law calls s life =
     let l = ap (λ (x : Totals). x.credit_lines) M.totals in
     let w = B.within in let con = B.contributed in let lin = B.lines in let cre = B.credited in
     let r = ap (total (λ x. x.balance)) M.members in
-    let q = total_each (λ x. x.balance) member_of (counted_roll s.figures s.tables) in
+    let q = total_map (λ x. x.balance) member_of (counted_roll s.figures s.tables) in
     let long = ap length M.members in
     record {
       operators = omega arith;
@@ -190,23 +191,23 @@ every_life_fits m law calls s life =
         credit_lines = omega arith;
         balances = parts_most (λ e. e.balance) most_amount (counted_roll s.figures s.tables) (omega arith);
       };
-      lines = λ places call effect e. lines_fit m law s.figures s.tables places (subst (All Shaped) (sym M.members) B.shaped) (omega arith) call s.phase effect e;
+      lines = λ places call effect e. lines_fit m law s.figures s.tables places (subst (AllByRecursion Shaped) (sym M.members) B.shaped) (omega arith) call s.phase effect e;
     }
 
 -- a share-out from any accepted tables
-paid_balances : (g : List ℕ → ℕ) (b c : ℕ) (xs : List Member) → All (λ x. x.balance ≤ b) xs → All (λ x. g x.tranches ≤ c) xs → All (λ x. x.balance ≤ b + c) (paid g xs)
+paid_balances : (g : List ℕ → ℕ) (b c : ℕ) (xs : List Member) → AllByRecursion (λ x. x.balance ≤ b) xs → AllByRecursion (λ x. g x.tranches ≤ c) xs → AllByRecursion (λ x. x.balance ≤ b + c) (paid g xs)
 paid_balances g b c [] h k = tt
 paid_balances g b c (x ∷ xs) h k = (let p = h.0 in let q = k.0 in omega arith, paid_balances g b c xs h.1 k.1)
 
-entered_most : (a : Addition) (b : ℕ) (xs : List Member) → All (λ x. x.balance ≤ b) xs → All (λ x. x.balance ≤ b) (entered_members a xs)
+entered_most : (a : Addition) (b : ℕ) (xs : List Member) → AllByRecursion (λ x. x.balance ≤ b) xs → AllByRecursion (λ x. x.balance ≤ b) (entered_members a xs)
 entered_most a b [] h = (omega arith, tt)
 entered_most a b (x ∷ xs) h = go (eqb x.operator a.operator) (entered_most a b xs h.1)
   where
-    go : (c : Bool) → All (λ x. x.balance ≤ b) (entered_members a xs) → All (λ x. x.balance ≤ b) (cond c (member_subscribed a x ∷ xs) (x ∷ entered_members a xs))
+    go : (c : Bool) → AllByRecursion (λ x. x.balance ≤ b) (entered_members a xs) → AllByRecursion (λ x. x.balance ≤ b) (cond c (member_subscribed a x ∷ xs) (x ∷ entered_members a xs))
     go true r = h
     go false r = (h.0, r)
 
-all_under : {A B : Type 0} (P : B → Type 0) (f : A → B) (xs : List A) → All P (each f xs) → All (λ x. P (f x)) xs
+all_under : {A B : Type 0} (P : B → Type 0) (f : A → B) (xs : List A) → AllByRecursion P (map f xs) → AllByRecursion (λ x. P (f x)) xs
 all_under P f [] h = tt
 all_under P f (x ∷ xs) h = (h.0, all_under P f xs h.1)
 
@@ -214,8 +215,8 @@ balance_fits : (e : RollEntry) → one_of (entry_faults e) ≡ false → e.balan
 balance_fits e h = ltb-false 4000000000000000000 e.balance (all_fail (entry_faults e) h).1.1.0
 
 -- what all share-outs of an event credit together
-shares_most : (m : Meaning) → Lawful m → (a : Addition) → a.tranches ≤ 20 → (os : List RegisterEntry) → All Sized os → length os ≤ 1024 →
-    (xs : List Member) → All Shaped xs → All Rated xs → length xs ≤ 16 → shares_all m a os xs ≤ 102400000000016384
+shares_most : (m : Meaning) → Lawful m → (a : Addition) → a.tranches ≤ 20 → (os : List RegisterEntry) → AllByRecursion Sized os → length os ≤ 1024 →
+    (xs : List Member) → AllByRecursion Shaped xs → AllByRecursion Rated xs → length xs ≤ 16 → shares_all m a os xs ≤ 102400000000016384
 shares_most m law a few os sized long xs shaped rated short = go (eqb (whole_weight m a.index xs) 0) refl
   where
     go : (b : Bool) → eqb (whole_weight m a.index xs) 0 ≡ b → shares_all m a os xs ≤ 102400000000016384
@@ -241,7 +242,7 @@ every_share_out_fits m law f day t places v effect few_operators few_objects lon
     let few : (added f day t v).tranches ≤ 20 = omega arith in
     let sized = objects_sized f t a.0.0 in
     let rated = members_rated f t a.0.0 in
-    let shaped : All Shaped (counted_members f t) = all_of Shaped member_of (counted_roll f t) long_enough in
+    let shaped : AllByRecursion Shaped (counted_members f t) = all_of Shaped member_of (counted_roll f t) long_enough in
     let short : length (counted_members f t) ≤ 16 = let l = length_counted f t in omega arith in
     let long : length (counted_register f t) ≤ 1024 = let l = length-take f.objects t.register in omega arith in
     let faults = (all_fail (table_faults f t) a.0.0).1.1.1.1.1.1.1.1 in
@@ -257,9 +258,9 @@ every_share_out_fits m law f day t places v effect few_operators few_objects lon
     let u1 = unshared_most (eqb (whole_weight m (added f day t v).index (counted_members f t)) 0) (total (object_contribution m (added f day t v)) (counted_register f t)) in
     let pays : List ℕ → ℕ = λ ts. payout m (added f day t v) (whole_weight m (added f day t v).index (counted_members f t)) (counted_register f t) ts in
     let swap = total_swap (λ x o. share_of m (added f day t v) (whole_weight m (added f day t v).index (counted_members f t)) o x.tranches) (counted_members f t) (counted_register f t) in
-    let each_pay : All (λ x. pays x.tranches ≤ 1000000000000000000) (counted_members f t) =
+    let each_pay : AllByRecursion (λ x. pays x.tranches ≤ 1000000000000000000) (counted_members f t) =
     parts_most (λ x. payout m (added f day t v) (whole_weight m (added f day t v).index (counted_members f t)) (counted_register f t) x.tranches) 1000000000000000000 (counted_members f t) (omega arith) in
-    let each_balance : All (λ x. x.balance ≤ 4000000000000000000) (counted_members f t) =
+    let each_balance : AllByRecursion (λ x. x.balance ≤ 4000000000000000000) (counted_members f t) =
     all_of (λ x. x.balance ≤ 4000000000000000000) member_of (counted_roll f t) (all_also balance_fits (counted_roll f t) (none_of (λ e. one_of (entry_faults e)) (counted_roll f t) (all_fail (table_faults f t) a.0.0).1.1.0)) in
     subst (λ (x : Effect). AmountsFit 5000000000000000000 x.state) a.1 (record {
       contributed = omega arith;
@@ -267,6 +268,6 @@ every_share_out_fits m law f day t places v effect few_operators few_objects lon
       unshared = omega arith;
       credit_lines = omega arith;
       balances = all_under (λ x. x.balance ≤ 5000000000000000000) member_of _
-          (subst (All (λ x. x.balance ≤ 5000000000000000000)) (sym (settled_counted m f day t v))
+          (subst (AllByRecursion (λ x. x.balance ≤ 5000000000000000000)) (sym (settled_counted m f day t v))
           (entered_most add 5000000000000000000 _ (paid_balances pays 4000000000000000000 1000000000000000000 (counted_members f t) each_balance each_pay)));
     })

@@ -9,7 +9,7 @@ use Rattle.refusal.proofs.First.{in_turn_is}
 use Rattle.calendar.specs.Days.{index_of}
 use Rattle.tariff.specs.Meaning.{Meaning}
 use Rattle.book.specs.Lists.{total, written}
-use Rattle.book.specs.Members.{Addition, addition, entered_roll}
+use Rattle.book.specs.Members.{Addition, entered_roll}
 use Rattle.book.specs.Sharing.{object_contribution, credits, left_unshared}
 use Rattle.book.specs.Zone.{Tables, counted_roll, counted_register, counted_members, launched, Effect}
 use Rattle.book.specs.Refusals.{tables_check, roll_checks, price_check, table_faults}
@@ -36,11 +36,10 @@ module _ (m : Meaning) (f : Figures) (launch_date : ℕ) (t : Tables) (places : 
   abbrev turns : ℕ → List (List Check)
   turns lines = roll_checks f t v ∷ (price_check m (counted_register f t) ∷ []) ∷ ((ltb places lines ⇒ StripTooShort) ∷ []) ∷ []
 
-  pub turned : (index : ℕ) → index ≡ index_of launch_date v.date → (r : Result (Unit {0}) Refusal) → r ≡ in_turn (tables_check f t ∷ []) (turns (due_with (addition index v (counted_members f t)))) → passing (settling_checks m f launch_date t places v) ≡ r
-  turned index is r answer =
+  pub turned : (r : Result (Unit {0}) Refusal) → r ≡ in_turn (tables_check f t ∷ []) (turns (due_with (added f launch_date t v))) → passing (settling_checks m f launch_date t places v) ≡ r
+  turned r answer =
       ap (λ n. passing (tables_check f t ∷ (roll_checks f t v ++ sheet_and_strip n))) (counted_credits m (added f launch_date t v) (counted_register f t) (counted_members f t))
       ∙ sym (in_turn_is (tables_check f t ∷ []) (turns (due_with (added f launch_date t v))))
-      ∙ ap (λ n. in_turn (tables_check f t ∷ []) (turns (due_with (addition n v (counted_members f t))))) (sym is)
       ∙ sym answer
 
   pub record Settleable : Type 0 where

@@ -1,8 +1,9 @@
 -- What an accepted share-out makes of the members, and what it keeps of the tally's bounds.
 use Rattle.std.proofs.Common.{◌≡◌, ℕ, ◌+◌, ◌*◌, ◌<◌, ◌≤◌, Bool, true, false, cond, eqb, List, [], ◌∷◌, length, drop, refl, ap, ◌∙◌, mul-le-mul, arith}
+use Rattle.std.specs.List.{AllByRecursion}
 use Rattle.std.proofs.lemmas.Bool.{eqb-true, eqb-false}
 use Rattle.tariff.specs.Meaning.{Meaning, Lawful}
-use Rattle.book.specs.Lists.{All, total}
+use Rattle.book.specs.Lists.{total}
 use Rattle.book.specs.Members.{Member, members_of, weight_to, whole_weight, Addition, entered_members}
 use Rattle.book.specs.Sharing.{object_contribution, to_share, serves, share_of, due_of, payout, left_unshared}
 use Rattle.book.specs.Zone.{Tables, counted_roll, counted_register, counted_members}
@@ -11,7 +12,7 @@ use Rattle.book.specs.Tally.{member_credited, credited_members}
 use Rattle.book.specs.declared.entries.RegisterEntry.{RegisterEntry}
 use Rattle.book.specs.declared.zone.Figures.{Figures}
 use Rattle.book.specs.declared.zone.Event.{Event}
-use Rattle.book.proofs.Totals.{total_most, total_each, total_add, total_swap, take_front}
+use Rattle.book.proofs.Totals.{total_most, total_map, total_add, total_swap, take_front}
 use Rattle.book.proofs.Entering.{members_entered, members_credited, Shaped, entered_balances}
 use Rattle.book.proofs.Amounts.{Rated, Sized, amount_most}
 use Rattle.book.proofs.Holding.{Within}
@@ -31,8 +32,8 @@ pub settled_counted : (m : Meaning) (f : Figures) (day : ℕ) (t : Tables) (v : 
 settled_counted m f day t v =
     ap members_of (take_front (settled_roll m f day t v) (drop (length (settled_roll m f day t v)) t.roll)) ∙ settled_members m f day t v
 
-module _ (m : Meaning) (law : Lawful m) (a : Addition) (few : a.tranches ≤ 20) (os : List RegisterEntry) (sized : All Sized os) where
-  amounts_each : (gs : List RegisterEntry) → All Sized gs → All (λ o. object_contribution m a o ≤ 5000000000000 * a.tranches) gs
+module _ (m : Meaning) (law : Lawful m) (a : Addition) (few : a.tranches ≤ 20) (os : List RegisterEntry) (sized : AllByRecursion Sized os) where
+  amounts_each : (gs : List RegisterEntry) → AllByRecursion Sized gs → AllByRecursion (λ o. object_contribution m a o ≤ 5000000000000 * a.tranches) gs
   amounts_each [] h = tt
   amounts_each (o ∷ gs) h = (amount_most m law a few o h.0, amounts_each gs h.1)
 
@@ -47,12 +48,12 @@ module _ (m : Meaning) (law : Lawful m) (a : Addition) (few : a.tranches ≤ 20)
     pub balances_grow : total (λ x. x.balance) (entered_members a (credited_members m a os xs)) ≡ total (λ x. x.balance) xs + shares_all m a os xs
     balances_grow =
         let e = entered_balances a (credited_members m a os xs) in
-        let b = total_each (λ x. x.balance) (λ x. member_credited (payout m a (whole_weight m a.index xs) os x.tranches) x) xs in
+        let b = total_map (λ x. x.balance) (λ x. member_credited (payout m a (whole_weight m a.index xs) os x.tranches) x) xs in
         let c = total_add (λ x. x.balance) (λ x. payout m a (whole_weight m a.index xs) os x.tranches) xs in
         let s = total_swap (λ x o. share_of m a (whole_weight m a.index xs) o x.tranches) xs os in
         omega arith
 
-    pub held_within : All Shaped xs → All Rated xs → length xs ≤ 16 → (lines all unshared : ℕ) →
+    pub held_within : AllByRecursion Shaped xs → AllByRecursion Rated xs → length xs ≤ 16 → (lines all unshared : ℕ) →
         Within lines all (total (λ x. x.balance) xs + unshared) →
         Within (lines + dues_all m a os xs) (all + total (object_contribution m a) os)
         (total (λ x. x.balance) (entered_members a (credited_members m a os xs)) + (unshared + left_unshared m a os xs))
@@ -79,11 +80,11 @@ module _ (m : Meaning) (law : Lawful m) (a : Addition) (few : a.tranches ≤ 20)
         go true = omega arith
         go false = omega arith
 
-    dues_each : (o : RegisterEntry) (ys : List Member) → All (λ x. due_of m a o x.tranches ≤ 1) ys
+    dues_each : (o : RegisterEntry) (ys : List Member) → AllByRecursion (λ x. due_of m a o x.tranches ≤ 1) ys
     dues_each o [] = tt
     dues_each o (y ∷ ys) = (one_due o y, dues_each o ys)
 
-    dues_of_each : length xs ≤ 16 → (gs : List RegisterEntry) → All (λ o. total (λ x. due_of m a o x.tranches) xs ≤ 16) gs
+    dues_of_each : length xs ≤ 16 → (gs : List RegisterEntry) → AllByRecursion (λ o. total (λ x. due_of m a o x.tranches) xs ≤ 16) gs
     dues_of_each short [] = tt
     dues_of_each short (o ∷ gs) = (let t = total_most (λ x. due_of m a o x.tranches) 1 xs (dues_each o xs) in omega arith, dues_of_each short gs)
 

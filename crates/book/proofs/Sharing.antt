@@ -1,13 +1,14 @@
 -- One share-out: what its lines come to, and what it holds back.
 use Rattle.std.proofs.Common.{◌≡◌, ℕ, zero, suc, ◌*◌, ◌<◌, ◌≤◌, Bool, true, false, cond, List, [], ◌∷◌, length, refl, ap, ◌∙◌, mul-le-mul, arith}
+use Rattle.std.specs.List.{AllByRecursion}
 use Rattle.tariff.specs.Meaning.{Meaning, Lawful}
-use Rattle.book.specs.Lists.{All, total}
+use Rattle.book.specs.Lists.{total}
 use Rattle.book.specs.Lines.{line}
 use Rattle.book.specs.Members.{Member, Addition, weight_to, whole_weight}
 use Rattle.book.specs.Sharing.{object_contribution, to_share, serves, unit_share, share_of, due_of, credit, credits}
 use Rattle.book.specs.declared.entries.RegisterEntry.{RegisterEntry}
 use Rattle.book.specs.declared.lines.Nature.TheVariants.{Credit}
-use Rattle.book.proofs.Totals.{total_same, total_joined, length_joined}
+use Rattle.book.proofs.Totals.{total_same, total_flat_map, length_flat_map}
 use Rattle.book.proofs.Holding.{Within, conserved, within_add}
 use Rattle.book.proofs.Entering.{Shaped}
 use Rattle.book.proofs.Amounts.{Rated, Sized, weights_most, amount_most}
@@ -35,17 +36,17 @@ module _ (m : Meaning) (a : Addition) where
 
   pub credits_total : (os : List RegisterEntry) (xs : List Member) → total (λ l. l.total) (credits m a os xs) ≡ shares_all os xs
   credits_total os xs =
-      total_joined (λ l. l.total) _ os ∙
-      total_same _ _ (λ o. total_joined (λ l. l.total) _ xs ∙ total_same _ _ (line_total o (whole_weight m a.index xs)) xs) os
+      total_flat_map (λ l. l.total) _ os ∙
+      total_same _ _ (λ o. total_flat_map (λ l. l.total) _ xs ∙ total_same _ _ (line_total o (whole_weight m a.index xs)) xs) os
 
   pub credits_count : (os : List RegisterEntry) (xs : List Member) → length (credits m a os xs) ≡ dues_all os xs
   credits_count os xs =
-      length_joined _ os ∙
-      total_same _ _ (λ o. length_joined _ xs ∙ total_same _ _ (line_count o (whole_weight m a.index xs)) xs) os
+      length_flat_map _ os ∙
+      total_same _ _ (λ o. length_flat_map _ xs ∙ total_same _ _ (line_count o (whole_weight m a.index xs)) xs) os
 
   -- what one share-out holds back, over all objects
-  pub shares_within : Lawful m → a.tranches ≤ 20 → (xs : List Member) → All Shaped xs → All Rated xs → length xs ≤ 16 → 0 < whole_weight m a.index xs →
-      (os : List RegisterEntry) → All Sized os →
+  pub shares_within : Lawful m → a.tranches ≤ 20 → (xs : List Member) → AllByRecursion Shaped xs → AllByRecursion Rated xs → length xs ≤ 16 → 0 < whole_weight m a.index xs →
+      (os : List RegisterEntry) → AllByRecursion Sized os →
       Within (dues_all os xs) (total (object_contribution m a) os) (shares_all os xs)
   shares_within law few xs shaped rates short pos [] small = omega arith
   shares_within law few xs shaped rates short pos (o ∷ os) small =

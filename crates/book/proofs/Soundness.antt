@@ -1,8 +1,9 @@
 -- What tables without fault say of each entry.
 use Rattle.std.proofs.Common.{◌≡◌, ℕ, ◌<◌, ◌≤◌, false, List, length, get_or}
+use Rattle.std.specs.List.{AllByRecursion, list_any}
 use Rattle.std.proofs.ByRecursion.{All-get_or}
 use Rattle.std.proofs.lemmas.Bool.{ltb-false}
-use Rattle.book.specs.Lists.{All, any, one_of}
+use Rattle.book.specs.Lists.{one_of}
 use Rattle.book.specs.Members.{rate_of}
 use Rattle.book.specs.Refusals.{entry_faults, object_faults}
 use Rattle.book.specs.declared.entries.RollEntry.{RollEntry}
@@ -21,18 +22,12 @@ sound_of e h =
     let f = all_fail (entry_faults e) h in
     record { rate = (inside 1 (rate_of e.tranches) 20 f.1.0).1; held = ltb-false 4000000000000000000 e.balance f.1.1.0 }
 
-pub all_sound : (roll : List RollEntry) → any (λ e. one_of (entry_faults e)) roll ≡ false → All Sound roll
+pub all_sound : (roll : List RollEntry) → list_any (λ e. one_of (entry_faults e)) roll ≡ false → AllByRecursion Sound roll
 all_sound roll h = all_also sound_of roll (none_of (λ e. one_of (entry_faults e)) roll h)
 
-pub sound_at : (roll : List RollEntry) → any (λ e. one_of (entry_faults e)) roll ≡ false → (i : ℕ) (d : RollEntry) → i < length roll → Sound (get_or roll i d)
+pub sound_at : (roll : List RollEntry) → list_any (λ e. one_of (entry_faults e)) roll ≡ false → (i : ℕ) (d : RollEntry) → i < length roll → Sound (get_or roll i d)
 sound_at roll h i d l = All-get_or Sound roll i d l (all_sound roll h)
 
 pub sized_of : (o : RegisterEntry) → one_of (object_faults o) ≡ false → Sized o
 sized_of o h =
     let f = all_fail (object_faults o) h in ((inside 1 o.dwellings 10000 f.1.1.0).1, real_of o.installed f.1.0)
-
-pub faultless_at : (os : List RegisterEntry) → any (λ o. one_of (object_faults o)) os ≡ false → (i : ℕ) (d : RegisterEntry) → i < length os → one_of (object_faults (get_or os i d)) ≡ false
-faultless_at os h i d l = All-get_or (λ o. one_of (object_faults o) ≡ false) os i d l (none_of (λ o. one_of (object_faults o)) os h)
-
-pub sized_at : (os : List RegisterEntry) → any (λ o. one_of (object_faults o)) os ≡ false → (i : ℕ) (d : RegisterEntry) → i < length os → Sized (get_or os i d)
-sized_at os h i d l = sized_of (get_or os i d) (faultless_at os h i d l)

@@ -1,6 +1,16 @@
 -- Laws of totals over lists.
-use Rattle.std.proofs.Common.{◌≡◌, ℕ, suc, ◌+◌, ◌*◌, ◌≤◌, List, [], ◌∷◌, ◌++◌, length, take, sym, refl, ap, mul-zero, mul-suc, mul-add, arith, length-append}
-use Rattle.book.specs.Lists.{total, each, joined, All}
+use Rattle.std.proofs.Common.{◌≡◌, ℕ, suc, ◌+◌, ◌*◌, ◌≤◌, List, [], ◌∷◌, ◌++◌, length, take, sym, refl, ap, mul-zero, mul-suc, mul-add, arith, length-append, flat_map, map, sum, sum_by}
+use Rattle.std.specs.List.{AllByRecursion}
+use Rattle.std.proofs.lemmas.List.Sums.{sum_by-cons}
+use Rattle.book.specs.Lists.{total}
+
+-- the library's sums
+sum_by_is : {A : Type 0} (f : A → ℕ) (xs : List A) → sum_by f xs ≡ total f xs
+sum_by_is f [] = refl
+sum_by_is f (x ∷ xs) = let t = sum_by_is f xs in omega (arith, sum_by-cons f x xs)
+
+pub sum_is_total : (xs : List ℕ) → sum xs ≡ total (λ t. t) xs
+sum_is_total xs = sum_by_is (λ t. t) xs
 
 pub total_same : {A : Type 0} (f g : A → ℕ) → ((x : A) → f x ≡ g x) → (xs : List A) → total f xs ≡ total g xs
 total_same f g e [] = refl
@@ -10,17 +20,17 @@ pub total_append : {A : Type 0} (f : A → ℕ) (xs ys : List A) → total f (xs
 total_append f [] ys = omega arith
 total_append f (x ∷ xs) ys = let t = total_append f xs ys in omega arith
 
-pub total_each : {A B : Type 0} (f : B → ℕ) (g : A → B) (xs : List A) → total f (each g xs) ≡ total (λ x. f (g x)) xs
-total_each f g [] = refl
-total_each f g (x ∷ xs) = let t = total_each f g xs in omega arith
+pub total_map : {A B : Type 0} (f : B → ℕ) (g : A → B) (xs : List A) → total f (map g xs) ≡ total (λ x. f (g x)) xs
+total_map f g [] = refl
+total_map f g (x ∷ xs) = let t = total_map f g xs in omega arith
 
-pub total_joined : {A B : Type 0} (f : B → ℕ) (g : A → List B) (xs : List A) → total f (joined g xs) ≡ total (λ x. total f (g x)) xs
-total_joined f g [] = refl
-total_joined f g (x ∷ xs) = let t = total_joined f g xs in let h = total_append f (g x) (joined g xs) in omega arith
+pub total_flat_map : {A B : Type 0} (f : B → ℕ) (g : A → List B) (xs : List A) → total f (flat_map g xs) ≡ total (λ x. total f (g x)) xs
+total_flat_map f g [] = refl
+total_flat_map f g (x ∷ xs) = let t = total_flat_map f g xs in let h = total_append f (g x) (flat_map g xs) in omega arith
 
-pub length_joined : {A B : Type 0} (g : A → List B) (xs : List A) → length (joined g xs) ≡ total (λ x. length (g x)) xs
-length_joined g [] = refl
-length_joined g (x ∷ xs) = let t = length_joined g xs in let h = length-append (g x) (joined g xs) in omega arith
+pub length_flat_map : {A B : Type 0} (g : A → List B) (xs : List A) → length (flat_map g xs) ≡ total (λ x. length (g x)) xs
+length_flat_map g [] = refl
+length_flat_map g (x ∷ xs) = let t = length_flat_map g xs in let h = length-append (g x) (flat_map g xs) in omega arith
 
 pub total_zero : {A : Type 0} (xs : List A) → total (λ x. 0) xs ≡ 0
 total_zero [] = refl
@@ -40,19 +50,15 @@ total_swap h (x ∷ xs) ys =
     let t = total_swap h xs ys in
     let s = total_add (λ y. h x y) (λ y. total (λ x. h x y) xs) ys in omega arith
 
-pub length_each : {A B : Type 0} (f : A → B) (xs : List A) → length (each f xs) ≡ length xs
-length_each f [] = refl
-length_each f (x ∷ xs) = ap suc (length_each f xs)
-
-pub all_also : {A : Type 0} {P Q : A → Type 0} → ((x : A) → P x → Q x) → (xs : List A) → All P xs → All Q xs
+pub all_also : {A : Type 0} {P Q : A → Type 0} → ((x : A) → P x → Q x) → (xs : List A) → AllByRecursion P xs → AllByRecursion Q xs
 all_also f [] h = tt
 all_also f (x ∷ xs) h = (f x h.0, all_also f xs h.1)
 
-pub all_of : {A B : Type 0} (P : B → Type 0) (f : A → B) (xs : List A) → All (λ x. P (f x)) xs → All P (each f xs)
+pub all_of : {A B : Type 0} (P : B → Type 0) (f : A → B) (xs : List A) → AllByRecursion (λ x. P (f x)) xs → AllByRecursion P (map f xs)
 all_of P f [] h = tt
 all_of P f (x ∷ xs) h = (h.0, all_of P f xs h.1)
 
-pub total_most : {A : Type 0} (f : A → ℕ) (b : ℕ) (xs : List A) → All (λ x. f x ≤ b) xs → total f xs ≤ b * length xs
+pub total_most : {A : Type 0} (f : A → ℕ) (b : ℕ) (xs : List A) → AllByRecursion (λ x. f x ≤ b) xs → total f xs ≤ b * length xs
 total_most f b [] h = omega arith
 total_most f b (x ∷ xs) h =
     let r = total_most f b xs h.1 in let p = h.0 in
@@ -62,15 +68,15 @@ pub take_front : {A : Type 0} (xs ys : List A) → take (length xs) (xs ++ ys) �
 take_front [] ys = refl
 take_front (x ∷ xs) ys = ap (λ zs. x ∷ zs) (take_front xs ys)
 
-pub all_append : {A : Type 0} (P : A → Type 0) (xs ys : List A) → All P xs → All P ys → All P (xs ++ ys)
+pub all_append : {A : Type 0} (P : A → Type 0) (xs ys : List A) → AllByRecursion P xs → AllByRecursion P ys → AllByRecursion P (xs ++ ys)
 all_append P [] ys h k = k
 all_append P (x ∷ xs) ys h k = (h.0, all_append P xs ys h.1 k)
 
-pub all_joined : {A B : Type 0} (P : B → Type 0) (f : A → List B) (xs : List A) → All (λ x. All P (f x)) xs → All P (joined f xs)
-all_joined P f [] h = tt
-all_joined P f (x ∷ xs) h = all_append P (f x) (joined f xs) h.0 (all_joined P f xs h.1)
+pub all_flat_map : {A B : Type 0} (P : B → Type 0) (f : A → List B) (xs : List A) → AllByRecursion (λ x. AllByRecursion P (f x)) xs → AllByRecursion P (flat_map f xs)
+all_flat_map P f [] h = tt
+all_flat_map P f (x ∷ xs) h = all_append P (f x) (flat_map f xs) h.0 (all_flat_map P f xs h.1)
 
 -- no part of a total exceeds it
-pub parts_most : {A : Type 0} (f : A → ℕ) (b : ℕ) (xs : List A) → total f xs ≤ b → All (λ x. f x ≤ b) xs
+pub parts_most : {A : Type 0} (f : A → ℕ) (b : ℕ) (xs : List A) → total f xs ≤ b → AllByRecursion (λ x. f x ≤ b) xs
 parts_most f b [] h = tt
 parts_most f b (x ∷ xs) h = (omega arith, parts_most f b xs (omega arith))

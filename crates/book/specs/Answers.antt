@@ -4,11 +4,11 @@
 --   installation   an opening or cabling
 --   billing        a commitment or raise after the launch
 --   settling       a share-out
-use Rattle.std.specs.Prelude.{ℕ, ◌+◌, List, [], ◌∷◌, ◌++◌, length}
+use Rattle.std.specs.Prelude.{ℕ, ◌+◌, List, [], ◌∷◌, ◌++◌, length, map}
 use Rattle.refusal.specs.Checks.{Check, first, unless}
 use Rattle.calendar.specs.Days.{index_of}
 use Rattle.tariff.specs.Meaning.{Meaning}
-use Rattle.book.specs.Lists.{total, each}
+use Rattle.book.specs.Lists.{total}
 use Rattle.book.specs.Members.{members_of, Addition, addition, entered_roll, whole_weight}
 use Rattle.book.specs.Billing.{bill, charged}
 use Rattle.book.specs.Sharing.{object_contribution, payout, credits, left_unshared}
@@ -115,7 +115,7 @@ with_credit amount e = record { operator = e.operator; tranches = e.tranches; ba
 -- Every operator's shares on its balance.
 abbrev pub credited_roll : Meaning → Addition → List RegisterEntry → List RollEntry → List RollEntry
 credited_roll m a objects roll =
-    each (λ e. with_credit (payout m a (whole_weight m a.index (members_of roll)) objects e.tranches) e) roll
+    map (λ e. with_credit (payout m a (whole_weight m a.index (members_of roll)) objects e.tranches) e) roll
 
 abbrev pub settled_roll : Meaning → Figures → ℕ → Tables → Event → List RollEntry
 settled_roll m f launch_date t v =

@@ -3,11 +3,11 @@
 --   unit_contribution   what of it goes to the earlier operators
 --   billed              the lines of a commitment or raise for one object
 --   charged             the lines of an object that is entered
-use Rattle.std.specs.Prelude.{ℕ, ◌*◌, Bool, cond, List, [], ◌∷◌, nat_lt}
+use Rattle.std.specs.Option.{unwrap_or}
+use Rattle.std.specs.Prelude.{ℕ, ◌*◌, Bool, cond, List, [], ◌∷◌, nat_lt, flat_map, map}
 use Rattle.tariff.specs.Meaning.{Meaning}
 use Rattle.tariff.specs.declared.kinds.Kind.{Kind}
 use Rattle.tariff.specs.declared.kinds.Coefficient.{Coefficient}
-use Rattle.book.specs.Lists.{each, joined, or_else}
 use Rattle.book.specs.Lines.{line}
 use Rattle.book.specs.Members.{Member, Addition, rate_of}
 use Rattle.book.specs.declared.entries.RegisterEntry.{RegisterEntry}
@@ -16,11 +16,11 @@ use Rattle.book.specs.declared.lines.Nature.TheVariants.{Charge, Contribution}
 
 -- The price per tranche and dwelling; 0 where the sheet has none, which no accepted call meets.
 abbrev pub price_at : Meaning → Kind → ℕ → ℕ
-price_at m kind installed = or_else 0 (m.price kind installed)
+price_at m kind installed = unwrap_or (m.price kind installed) 0
 
 -- The coefficient of two days; 0 where the sheet has none, which no accepted call meets.
 abbrev pub coefficient_at : Meaning → ℕ → ℕ → Coefficient
-coefficient_at m installed date = or_else (record { numerator = 0; denominator = 1 }) (m.coefficient installed date)
+coefficient_at m installed date = unwrap_or (m.coefficient installed date) (record { numerator = 0; denominator = 1 })
 
 -- Whether something stood before a day.
 abbrev pub earlier : ℕ → ℕ → Bool
@@ -48,9 +48,9 @@ billed m a o =
 
 -- A commitment or raise bills each object in register order.
 abbrev pub bill : Meaning → Addition → List RegisterEntry → List Line
-bill m a objects = joined (billed m a) objects
+bill m a objects = flat_map (billed m a) objects
 
 -- For an object that is entered each operator, in roll order, gets a charge line whose unit is price × rate.
 abbrev pub charged : Meaning → RegisterEntry → List Member → List Line
 charged m o members =
-    each (λ x. line Charge x.operator o.object (price_at m o.kind o.installed * rate_of x.tranches) o.dwellings) members
+    map (λ x. line Charge x.operator o.object (price_at m o.kind o.installed * rate_of x.tranches) o.dwellings) members

@@ -1,9 +1,8 @@
 -- Examples that compute: what is billed, entered and shared, and which of several refusals comes first.
-use Rattle.std.specs.Prelude.{◌≡◌, ℕ, ◌+◌, ◌*◌, true, false, List, [], ◌∷◌, ◌++◌, take, replicate, Some, None, Option, slice_set}
+use Rattle.std.specs.Prelude.{◌≡◌, ℕ, ◌+◌, ◌*◌, true, false, List, [], ◌∷◌, ◌++◌, take, replicate, Some, None, Option, slice_set, map}
 use Rattle.tariff.specs.Meaning.{Meaning}
 use Rattle.sheet_parts.specs.Rounding.{five_up, five_down}
 use Rattle.tariff.specs.declared.kinds.Kind.TheVariants.{Covered}
-use Rattle.book.specs.Lists.{each}
 use Rattle.book.specs.Lines.{line}
 use Rattle.book.specs.Members.{rate_of}
 use Rattle.book.specs.Zone.{Tables, counted_roll, State, Answer, tables_after, strip_after}
@@ -27,10 +26,10 @@ abbrev pub sheet_down : Meaning
 sheet_down = flat_sheet 15 (λ index. 100) five_down
 
 abbrev pub balances : State → List ℕ
-balances s = each (λ e. e.balance) (counted_roll s.figures s.tables)
+balances s = map (λ e. e.balance) (counted_roll s.figures s.tables)
 
 abbrev pub rates : State → List ℕ
-rates s = each (λ e. rate_of e.tranches) (counted_roll s.figures s.tables)
+rates s = map (λ e. rate_of e.tranches) (counted_roll s.figures s.tables)
 
 -- Contributed, credited, unshared and credit lines.
 abbrev pub moved : Totals → List ℕ
@@ -91,20 +90,20 @@ pub record AmountsWorked (contribution : ℕ) : Type 0 where
   pub opening_entry : (tables_next launched_zone.tables (answer_at sheet_up launched_zone (opening 20170401 7 300 on 2))).register ≡
       record { object = 7; kind = Covered; installed = 20170401; dwellings = 300 } ∷ blank_object ∷ blank_object ∷ []
   -- a cabling by a third party, and one of the zone's own
-  pub cabling_units : each (λ l. l.unit) (lines_in (answer_at sheet_up launched_zone (cabling 20170401 7 true 300 on 2)) ++ lines_in (answer_at sheet_up launched_zone (cabling 20170401 7 false 300 on 2))) ≡
+  pub cabling_units : map (λ l. l.unit) (lines_in (answer_at sheet_up launched_zone (cabling 20170401 7 true 300 on 2)) ++ lines_in (answer_at sheet_up launched_zone (cabling 20170401 7 false 300 on 2))) ≡
       64800000 ∷ 32400000 ∷ 75080000 ∷ 37540000 ∷ []
   -- a commitment to an object of an earlier day has two lines, to one of its own day one
   pub bill_lines : lines_in (answer_at (sheet_of contribution) two_objects (commitment 20180410 3 1 on 3)) ≡
       line Charge 3 7 7601000 300 ∷ line Contribution 3 7 1036500 300 ∷ line Charge 3 8 6910000 100 ∷ []
   -- two lines even where the contribution is 0
-  pub no_contribution : each (λ l. l.unit) (lines_in (answer_at (flat_sheet 0 (λ index. 100) five_up) two_objects (commitment 20180410 3 1 on 3))) ≡ 7601000 ∷ 0 ∷ 6910000 ∷ []
+  pub no_contribution : map (λ l. l.unit) (lines_in (answer_at (flat_sheet 0 (λ index. 100) five_up) two_objects (commitment 20180410 3 1 on 3))) ≡ 7601000 ∷ 0 ∷ 6910000 ∷ []
   -- the lines fill the strip from its start and later places stay; a refusal leaves strip and tables
   pub strip_filled : strip_next (replicate 3 old_line) (answer_at sheet_up launched_zone (opening 20170401 7 300 on 3)) ≡ line Charge 1 7 27640000 300 ∷ line Charge 2 7 13820000 300 ∷ old_line ∷ []
   pub strip_kept : strip_next (replicate 1 old_line) (answer_at sheet_up launched_zone (opening 20170401 7 300 on 1)) ≡ replicate 1 old_line
   pub tables_kept : tables_next launched_zone.tables (answer_at sheet_up launched_zone (opening 20170401 7 300 on 1)) ≡ launched_zone.tables
   -- a raiser shares with its old tranches, and its new one enters at the event's index
   pub raise_balances : balances (raised_state contribution) ≡ 207300000 ∷ 103650000 ∷ []
-  pub raise_tranches : each (λ e. take 4 e.tranches) (counted_roll (raised_state contribution).figures (raised_state contribution).tables) ≡ (4 ∷ 0 ∷ 1 ∷ 0 ∷ []) ∷ (2 ∷ 0 ∷ 0 ∷ 0 ∷ []) ∷ []
+  pub raise_tranches : map (λ e. take 4 e.tranches) (counted_roll (raised_state contribution).figures (raised_state contribution).tables) ≡ (4 ∷ 0 ∷ 1 ∷ 0 ∷ []) ∷ (2 ∷ 0 ∷ 0 ∷ 0 ∷ []) ∷ []
   -- where nobody weighs anything all is unshared: by weights of 0, and with nobody on the roll
   pub weightless : moved (lived (flat_sheet contribution (λ index. 0) five_up) (blank 4 3) statement).figures.totals ≡ 310950000 ∷ 0 ∷ 310950000 ∷ 0 ∷ []
   pub nobody : moved (lived (sheet_of contribution) (blank 4 3) (launch 20170315 on 0 ∷ opening 20170401 7 300 on 0 ∷ commitment 20180410 3 1 on 2 ∷ share_out on 0 ∷ [])).figures.totals ≡ 310950000 ∷ 0 ∷ 310950000 ∷ 0 ∷ []
@@ -113,4 +112,4 @@ pub record AmountsWorked (contribution : ℕ) : Type 0 where
   -- tranches of index 0 weigh 100 and those of index 2 weigh 120: 4 × 100 and 2 × 120 of 640
   pub weights_by_year : balances (lived (flat_sheet contribution (λ index. 100 + 10 * index) five_up) (blank 4 3) by_year) ≡ 816243750 ∷ 116606250 ∷ 0 ∷ []
   -- the tally by itself comes to the same balances
-  pub tally_balances : each (λ x. x.balance) (tallied (sheet_of contribution) (calls (sheet_of contribution) (blank 4 3) statement [])).members ≡ 207300000 ∷ 103650000 ∷ 0 ∷ []
+  pub tally_balances : map (λ x. x.balance) (tallied (sheet_of contribution) (calls (sheet_of contribution) (blank 4 3) statement [])).members ≡ 207300000 ∷ 103650000 ∷ 0 ∷ []

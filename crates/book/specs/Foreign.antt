@@ -1,7 +1,6 @@
 -- Examples that compute: tables and figures at the limits, and tables other than those that an event was billed on.
-use Rattle.std.specs.Prelude.{◌≡◌, ℕ, ◌+◌, List, [], ◌∷◌, replicate, Some, Option}
+use Rattle.std.specs.Prelude.{◌≡◌, ℕ, ◌+◌, List, [], ◌∷◌, replicate, Some, Option, map}
 use Rattle.tariff.specs.declared.kinds.Kind.TheVariants.{Covered}
-use Rattle.book.specs.Lists.{each}
 use Rattle.book.specs.Zone.{State, with_totals}
 use Rattle.book.specs.Calls.{raise, opening, share_out}
 use Rattle.book.specs.Runs.{◌on◌, answer_at, said, lived}
@@ -34,13 +33,13 @@ totals_with contributed credited unshared lines = record { contributed = contrib
 
 -- An opening on these rolls, registers and totals, and a share-out on these rolls.
 abbrev pub on_rolls : List (List RollEntry) → List (Option ℕ)
-on_rolls rolls = each (λ roll. said (answer_at sheet_up (on_roll launched_zone roll) (opening 20180101 9 1 on 2))) rolls
+on_rolls rolls = map (λ roll. said (answer_at sheet_up (on_roll launched_zone roll) (opening 20180101 9 1 on 2))) rolls
 
 abbrev pub on_registers : List (List RegisterEntry) → List (Option ℕ)
-on_registers registers = each (λ register. said (answer_at sheet_up (on_register one_object register) (opening 20180101 9 1 on 2))) registers
+on_registers registers = map (λ register. said (answer_at sheet_up (on_register one_object register) (opening 20180101 9 1 on 2))) registers
 
 abbrev pub shares_on : State → List (List RollEntry) → List (Option ℕ)
-shares_on levy rolls = each (λ roll. said (answer_at sheet_up (on_roll levy roll) (share_out on 9))) rolls
+shares_on levy rolls = map (λ roll. said (answer_at sheet_up (on_roll levy roll) (share_out on 9))) rolls
 
 -- The first operator raises from 4 to 9 tranches.
 abbrev pub raise_levy : State
@@ -65,7 +64,7 @@ pub record TablesLimited : Type 0 where
       (object_with 7 20180101 10001 ∷ object_with 0 0 0 ∷ []) ∷ [] ∷ []) ≡
       Some 0 ∷ Some 1 ∷ Some 1 ∷ Some 1 ∷ Some 1 ∷ Some 1 ∷ []
   -- the largest totals, and one above it in each place
-  pub totals : each (λ totals. said (answer_at sheet_up (on_totals launched_zone totals) (opening 20180101 9 1 on 2)))
+  pub totals : map (λ totals. said (answer_at sheet_up (on_totals launched_zone totals) (opening 20180101 9 1 on 2)))
       (totals_with most most most most ∷ totals_with (most + 1) 0 0 0 ∷ totals_with 0 (most + 1) 0 0 ∷ totals_with 0 0 (most + 1) 0 ∷ totals_with 0 0 0 (most + 1) ∷ []) ≡
       Some 0 ∷ Some 1 ∷ Some 1 ∷ Some 1 ∷ Some 1 ∷ []
   -- a share-out of the third operator's commitment: with a place; with that operator on the roll; with no place

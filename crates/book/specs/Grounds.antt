@@ -5,11 +5,11 @@
 --   EveryShareOutFits    what a share-out can reach from any accepted tables
 --   EnteredAsBilled      the tranches that a share-out enters are those that were billed
 use Rattle.std.specs.Prelude.{◌≡◌, ℕ, ◌+◌, ◌*◌, ◌<◌, ◌≤◌, cond, ◌&&◌, List, length, Some, Ok, Err, ◌==◌, slice_index}
+use Rattle.std.specs.List.{AllByRecursion}
 use Rattle.refusal.specs.declared.Refusal.{Refusal}
 use Rattle.calendar.specs.Days.{index_of}
 use Rattle.tariff.specs.Meaning.{Meaning, Lawful}
 use Rattle.book.specs.Limits.{most_operators, most_objects, years}
-use Rattle.book.specs.Lists.{All}
 use Rattle.book.specs.Members.{Member, tranches_of, Addition}
 use Rattle.book.specs.Billing.{bill, charged}
 use Rattle.book.specs.Sharing.{credits}
@@ -48,7 +48,7 @@ pub record AmountsFit (limit : ℕ) (s : State) : Type 0 where
   pub credited : s.figures.totals.credited ≤ limit
   pub unshared : s.figures.totals.unshared ≤ limit
   pub credit_lines : s.figures.totals.credit_lines ≤ limit
-  pub balances : All (λ e. e.balance ≤ limit) (counted_roll s.figures s.tables)
+  pub balances : AllByRecursion (λ e. e.balance ≤ limit) (counted_roll s.figures s.tables)
 
 -- Every number of a state, and every number that an accepted call then writes on lines, is at most a limit.
 pub record NumbersFit (limit : ℕ) (m : Meaning) (s : State) : Type 0 where
@@ -56,7 +56,7 @@ pub record NumbersFit (limit : ℕ) (m : Meaning) (s : State) : Type 0 where
   pub objects : s.figures.objects ≤ most_objects
   pub amounts : AmountsFit limit s
   pub lines : (places : ℕ) (call : Call) (effect : Effect) → answer_to m s places call ≡ Some (Ok effect) →
-      All (λ l. (l.unit ≤ limit) × (l.total ≤ limit)) effect.lines
+      AllByRecursion (λ l. (l.unit ≤ limit) × (l.total ≤ limit)) effect.lines
 
 abbrev pub EveryLifeFits : ℕ → Type 0
 EveryLifeFits limit = (m : Meaning) → Lawful m → (calls : List Made) (s : State) → Life m calls s → NumbersFit limit m s
@@ -65,7 +65,7 @@ EveryLifeFits limit = (m : Meaning) → Lawful m → (calls : List Made) (s : St
 abbrev pub EveryShareOutFits : ℕ → Type 0
 EveryShareOutFits limit =
     (m : Meaning) → Lawful m → (f : Figures) (launch_date : ℕ) (t : Tables) (places : ℕ) (v : Event) (effect : Effect) →
-    f.operators ≤ most_operators → f.objects ≤ most_objects → All (λ e. length e.tranches ≡ years) (counted_roll f t) →
+    f.operators ≤ most_operators → f.objects ≤ most_objects → AllByRecursion (λ e. length e.tranches ≡ years) (counted_roll f t) →
     settling m f launch_date t places v ≡ Ok effect → AmountsFit limit effect.state
 
 -- The tranches that an operator has in a year index.

@@ -2,8 +2,7 @@
 --   nature_number   a nature's number
 --   line            a line of a unit and a quantity
 --   unit_shown      the unit that some lines show for an operator and an object
-use Rattle.std.specs.Prelude.{ℕ, ◌*◌, Bool, ◌&&◌, List, Some, None, Option, ◌==◌}
-use Rattle.book.specs.Lists.{found}
+use Rattle.std.specs.Prelude.{ℕ, ◌*◌, Bool, ◌&&◌, List, Some, None, Option, ◌==◌, find}
 use Rattle.book.specs.declared.lines.Line.{Line}
 use Rattle.book.specs.declared.lines.Nature.{Nature}
 use Rattle.book.specs.declared.lines.Nature.TheVariants.{Charge, Contribution, Credit}
@@ -30,4 +29,4 @@ unit_of (Some l) = l.unit
 
 -- The unit of the first such line, 0 where there is none.
 abbrev pub unit_shown : Nature → ℕ → ℕ → List Line → ℕ
-unit_shown nature operator object lines = unit_of (found (shows nature operator object) lines)
+unit_shown nature operator object lines = unit_of (find (shows nature operator object) lines)

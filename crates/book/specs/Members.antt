@@ -5,10 +5,10 @@
 --   present_rate   the rate that an operator has, 0 where it has none
 --   Addition       what a commitment or raise adds: k tranches of an operator, on a day in a year index
 --   entered_roll, entered_members   the operators with such tranches added
-use Rattle.std.specs.Prelude.{ℕ, ◌+◌, ◌-◌, ◌*◌, List, [], ◌∷◌, take, replicate, Some, None, Option, nat_eq, slice_index, slice_set}
+use Rattle.std.specs.Prelude.{ℕ, ◌+◌, ◌-◌, ◌*◌, List, [], ◌∷◌, take, replicate, Some, None, Option, nat_eq, slice_index, slice_set, find, map}
 use Rattle.tariff.specs.Meaning.{Meaning}
 use Rattle.book.specs.Limits.{years}
-use Rattle.book.specs.Lists.{total, each, found, placed}
+use Rattle.book.specs.Lists.{total, placed}
 use Rattle.book.specs.declared.entries.RollEntry.{RollEntry}
 use Rattle.book.specs.declared.zone.Event.{Event}
 
@@ -22,7 +22,7 @@ abbrev pub member_of : RollEntry → Member
 member_of e = record { operator = e.operator; tranches = e.tranches; balance = e.balance }
 
 abbrev pub members_of : List RollEntry → List Member
-members_of roll = each member_of roll
+members_of roll = map member_of roll
 
 -- A rate is the tranches of all years together.
 abbrev pub rate_of : List ℕ → ℕ
@@ -42,7 +42,7 @@ abbrev pub whole_weight : Meaning → ℕ → List Member → ℕ
 whole_weight m index members = total (λ x. weight_to m index x.tranches) members
 
 abbrev pub member : ℕ → List Member → Option Member
-member operator members = found (λ x. nat_eq x.operator operator) members
+member operator members = find (λ x. nat_eq x.operator operator) members
 
 abbrev pub tranches_found : Option Member → List ℕ
 tranches_found None = []

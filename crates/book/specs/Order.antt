@@ -1,7 +1,6 @@
 -- Examples that compute: of several conditions that hold, the first in order gives the refusal.
-use Rattle.std.specs.Prelude.{◌≡◌, ℕ, false, List, [], ◌∷◌, ◌++◌, Some, None, Option}
+use Rattle.std.specs.Prelude.{◌≡◌, ℕ, false, List, [], ◌∷◌, ◌++◌, Some, None, Option, map}
 use Rattle.tariff.specs.Meaning.{Meaning}
-use Rattle.book.specs.Lists.{each}
 use Rattle.book.specs.Zone.{State}
 use Rattle.book.specs.Calls.{Call, commitment, raise, launch, opening, cabling, share_out}
 use Rattle.book.specs.Runs.{◌on◌, answer_at, said, lived}
@@ -10,7 +9,7 @@ use Rattle.book.specs.Cases.{sheet_up, launched_zone}
 
 -- What each of some calls is answered from one state with a strip of some places.
 abbrev pub each_told : Meaning → State → ℕ → List Call → List (Option ℕ)
-each_told m s places asked = each (λ call. said (answer_at m s (call on places))) asked
+each_told m s places asked = map (λ call. said (answer_at m s (call on places))) asked
 
 -- The same zone with tables too short for what it counts.
 abbrev pub short_tables : State
@@ -22,7 +21,7 @@ full_roll = lived sheet_up (blank 4 3) (commitment 20170301 1 4 on 0 ∷ commitm
 
 -- A roll of seventeen places, sixteen of them counted.
 abbrev pub sixteen_operators : State
-sixteen_operators = lived sheet_up (blank 17 1) (each (λ n. commitment 20170301 n 1 on 0) (1 ∷ 2 ∷ 3 ∷ 4 ∷ 5 ∷ 6 ∷ 7 ∷ 8 ∷ 9 ∷ 10 ∷ 11 ∷ 12 ∷ 13 ∷ 14 ∷ 15 ∷ 16 ∷ []))
+sixteen_operators = lived sheet_up (blank 17 1) (map (λ n. commitment 20170301 n 1 on 0) (1 ∷ 2 ∷ 3 ∷ 4 ∷ 5 ∷ 6 ∷ 7 ∷ 8 ∷ 9 ∷ 10 ∷ 11 ∷ 12 ∷ 13 ∷ 14 ∷ 15 ∷ 16 ∷ []))
 
 abbrev pub full_register : State
 full_register = lived sheet_up launched_zone (opening 20180101 1 1 on 2 ∷ opening 20180101 2 1 on 2 ∷ opening 20180101 3 1 on 2 ∷ [])

@@ -1,12 +1,13 @@
 -- When a call is turned down: the conditions of each place, in their order, with the refusal that each gives.
 -- The places are tables, date, roll, register, sheet and strip, checked in that order.
-use Rattle.std.specs.Prelude.{ℕ, Bool, false, not, ◌&&◌, ◌||◌, ltb, leb, List, [], ◌∷◌, length, Some, None, Option, ◌==◌, nat_eq, nat_le, nat_lt}
+use Rattle.std.specs.Prelude.{ℕ, Bool, false, not, ◌&&◌, ◌||◌, ltb, leb, List, [], ◌∷◌, length, Some, None, Option, ◌==◌, nat_eq, nat_le, nat_lt, is_none}
+use Rattle.std.specs.List.{list_any}
 use Rattle.refusal.specs.Checks.{Check, ◌⇒◌}
 use Rattle.refusal.specs.declared.Refusal.TheVariants.{BadTables, NoDate, BeforeLastDate, IndexTooHigh, NoOperator, RateOutOfRange, AlreadyOnRoll, NotOnRoll, RateNotRaised, RollFull, ObjectUnusable, DwellingsOutOfRange, RegisterFull, NoPrice, NoCoefficient, StripTooShort}
 use Rattle.calendar.specs.Days.{is_date, index_of, within}
 use Rattle.tariff.specs.Meaning.{Meaning}
 use Rattle.book.specs.Limits.{most_operators, most_objects, most_index, most_tranches, most_dwellings, most_amount}
-use Rattle.book.specs.Lists.{any, one_of, is_none, repeats}
+use Rattle.book.specs.Lists.{one_of, repeats}
 use Rattle.book.specs.Members.{rate_of, member, present_rate}
 use Rattle.book.specs.Billing.{earlier}
 use Rattle.book.specs.Zone.{Tables, counted_roll, counted_register, counted_members}
@@ -44,8 +45,8 @@ abbrev pub table_faults : Figures → Tables → List Bool
 table_faults f t =
     nat_lt (length t.roll) f.operators ∷
     nat_lt (length t.register) f.objects ∷
-    any (λ e. one_of (entry_faults e)) (counted_roll f t) ∷
-    any (λ o. one_of (object_faults o)) (counted_register f t) ∷
+    list_any (λ e. one_of (entry_faults e)) (counted_roll f t) ∷
+    list_any (λ o. one_of (object_faults o)) (counted_register f t) ∷
     repeats (λ e. e.operator) (counted_roll f t) ∷
     repeats (λ o. o.object) (counted_register f t) ∷
     figure_faults f
@@ -87,7 +88,7 @@ register_full f t = nat_le most_objects f.objects || nat_le (length t.register) 
 
 abbrev pub register_checks : Figures → Tables → RegisterEntry → List Check
 register_checks f t o =
-    ((o.object == 0 || any (λ x. nat_eq x.object o.object) (counted_register f t)) ⇒ ObjectUnusable) ∷
+    ((o.object == 0 || list_any (λ x. nat_eq x.object o.object) (counted_register f t)) ⇒ ObjectUnusable) ∷
     (bad_dwellings o.dwellings ⇒ DwellingsOutOfRange) ∷
     (register_full f t ⇒ RegisterFull) ∷ []
 
@@ -96,13 +97,13 @@ abbrev pub unpriced : Meaning → RegisterEntry → Bool
 unpriced m o = is_none (m.price o.kind o.installed)
 
 abbrev pub price_check : Meaning → List RegisterEntry → Check
-price_check m objects = any (unpriced m) objects ⇒ NoPrice
+price_check m objects = list_any (unpriced m) objects ⇒ NoPrice
 
 abbrev pub unrated : Meaning → ℕ → RegisterEntry → Bool
 unrated m date o = earlier o.installed date && is_none (m.coefficient o.installed date)
 
 abbrev pub coefficient_check : Meaning → ℕ → List RegisterEntry → Check
-coefficient_check m date objects = any (unrated m date) objects ⇒ NoCoefficient
+coefficient_check m date objects = list_any (unrated m date) objects ⇒ NoCoefficient
 
 -- Strip. 16: fewer places than lines.
 abbrev pub strip_check : ℕ → List Line → Check

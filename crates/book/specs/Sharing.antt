@@ -4,9 +4,9 @@
 --   serves                whether an amount and a weight are both above 0
 --   share, due            an operator's share of an object; 1 where it has one, else 0
 --   credits               the credit lines of a share-out
-use Rattle.std.specs.Prelude.{ℕ, zero, suc, ◌*◌, Bool, true, false, cond, List, [], ◌∷◌, ◌==◌}
+use Rattle.std.specs.Prelude.{ℕ, zero, suc, ◌*◌, Bool, true, false, cond, List, [], ◌∷◌, ◌==◌, flat_map}
 use Rattle.tariff.specs.Meaning.{Meaning}
-use Rattle.book.specs.Lists.{total, joined}
+use Rattle.book.specs.Lists.{total}
 use Rattle.book.specs.Lines.{line}
 use Rattle.book.specs.Members.{Member, Addition, weight_to, whole_weight}
 use Rattle.book.specs.Billing.{unit_contribution}
@@ -62,7 +62,7 @@ credit m a whole o x =
 -- Each object in register order, and for it each operator in roll order.
 abbrev pub credits : Meaning → Addition → List RegisterEntry → List Member → List Line
 credits m a objects members =
-    joined (λ o. joined (credit m a (whole_weight m a.index members) o) members) objects
+    flat_map (λ o. flat_map (credit m a (whole_weight m a.index members) o) members) objects
 
 -- Where all operators together weigh nothing, the contributions are unshared.
 abbrev pub left_unshared : Meaning → Addition → List RegisterEntry → List Member → ℕ

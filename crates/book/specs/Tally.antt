@@ -2,10 +2,10 @@
 --   Made      a call, and whether it was refused: all that the tally is fed
 --   Tally     the launch date, the event that waits for its share-out, members, objects and totals
 --   tallied   what a list of calls made comes to, the newest first
-use Rattle.std.specs.Prelude.{ℕ, ◌+◌, Bool, cond, List, [], ◌∷◌, ◌++◌, Some, None, Option}
+use Rattle.std.specs.Prelude.{ℕ, ◌+◌, Bool, cond, List, [], ◌∷◌, ◌++◌, Some, None, Option, map}
 use Rattle.calendar.specs.Days.{index_of}
 use Rattle.tariff.specs.Meaning.{Meaning}
-use Rattle.book.specs.Lists.{total, each}
+use Rattle.book.specs.Lists.{total}
 use Rattle.book.specs.Members.{Member, Addition, addition, whole_weight, entered_members}
 use Rattle.book.specs.Sharing.{object_contribution, share_of, due_of, payout, left_unshared}
 use Rattle.book.specs.Calls.{Call, commitment, raise, launch, opening, cabling, share_out, commitment_event, raise_event, opened, cabled}
@@ -65,7 +65,7 @@ member_credited amount x = record { operator = x.operator; tranches = x.tranches
 
 abbrev pub credited_members : Meaning → Addition → List RegisterEntry → List Member → List Member
 credited_members m a objects members =
-    each (λ x. member_credited (payout m a (whole_weight m a.index members) objects x.tranches) x) members
+    map (λ x. member_credited (payout m a (whole_weight m a.index members) objects x.tranches) x) members
 
 -- Each object's contribution adds to contributed, and to unshared if nobody weighs anything; each share adds to
 -- credited, and 1 to credit lines.

@@ -2,10 +2,10 @@
 --   story        a life with an accepted and a refused call of every kind
 --   before_cut   a state in which an operator of 2 tranches raises to 5, at once or in three parts
 --   Story, Parts the laws applied to both
-use Rattle.std.specs.Prelude.{◌≡◌, ℕ, Bool, true, false, not, ◌&&◌, List, [], ◌∷◌, Some, None, Ok, Err, Option, ◌==◌}
+use Rattle.std.specs.Prelude.{◌≡◌, ℕ, Bool, true, false, not, ◌&&◌, List, [], ◌∷◌, Some, None, Ok, Err, Option, ◌==◌, map}
+use Rattle.std.specs.List.{list_any}
 use Rattle.tariff.specs.Meaning.{Meaning, Lawful}
 use Rattle.book.specs.Limits.{most_amount}
-use Rattle.book.specs.Lists.{each, any}
 use Rattle.book.specs.Lines.{unit_shown}
 use Rattle.book.specs.Zone.{State, Effect, Answer}
 use Rattle.book.specs.Calls.{Call, commitment, raise, launch, opening, cabling, share_out}
@@ -46,12 +46,12 @@ kind_number share_out = 6
 -- Whether calls of a kind were both accepted and refused.
 abbrev pub both_ways : List Made → ℕ → Bool
 both_ways made kind =
-    any (λ x. (kind_number x.call == kind) && x.refused) made && any (λ x. (kind_number x.call == kind) && not x.refused) made
+    list_any (λ x. (kind_number x.call == kind) && x.refused) made && list_any (λ x. (kind_number x.call == kind) && not x.refused) made
 
 pub record Story : Type 0 where
   pub lawful : Lawful sheet_down
   pub life : Life sheet_down story_calls story_end
-  pub every_kind : each (both_ways story_calls) (1 ∷ 2 ∷ 3 ∷ 4 ∷ 5 ∷ 6 ∷ []) ≡ true ∷ true ∷ true ∷ true ∷ true ∷ true ∷ []
+  pub every_kind : map (both_ways story_calls) (1 ∷ 2 ∷ 3 ∷ 4 ∷ 5 ∷ 6 ∷ []) ≡ true ∷ true ∷ true ∷ true ∷ true ∷ true ∷ []
   pub accounted : Accounted (λ lines. lines) sheet_down story_calls story_end
   pub fits : NumbersFit most_amount sheet_down story_end
 
@@ -99,5 +99,5 @@ pub record Parts (together each_part : ℕ) : Type 0 where
   pub accepted : Accepts sheet_down before_cut (raise 20181201 2 5) whole
   pub cut : Cut sheet_down 20181201 2 5 before_cut parts
   pub at_once : unit_shown Charge 2 7 whole.lines ≡ together
-  pub in_parts : each (unit_shown Charge 2 7) parts ≡ each_part ∷ each_part ∷ each_part ∷ []
+  pub in_parts : map (unit_shown Charge 2 7) parts ≡ each_part ∷ each_part ∷ each_part ∷ []
   pub fair : ShownApart 3 Charge 2 7 whole.lines parts × ShownApart 3 Contribution 2 7 whole.lines parts

@@ -1,7 +1,7 @@
 // What a sheet must be able to answer before objects are billed.
 ghost use Rattle.std.specs.Prelude.{◌≡◌, [], ◌∷◌};
+ghost use Rattle.std.specs.List.{list_any};
 ghost use Rattle.book.specs.Refusals.{unpriced, unrated, price_check, coefficient_check};
-ghost use Rattle.book.specs.Lists.{any};
 ghost use Rattle.refusal.specs.Checks.{passing};
 
 use crate::entries::RegisterEntry;
@@ -13,16 +13,6 @@ pub(crate) fn check_prices<T: Tariff>(sheet: &T, objects: &[RegisterEntry]) -> R
     ensures answer { result ≡ passing (price_check (T.meaning sheet.now) objects.now ∷ []) }
 {
     if any_unpriced(sheet, objects) {
-        return Err(Refusal::NoPrice);
-    }
-    Ok(())
-}
-
-// A price for one object.
-pub(crate) fn check_price<T: Tariff>(sheet: &T, object: &RegisterEntry) -> Result<(), Refusal>
-    ensures answer { result ≡ passing (price_check (T.meaning sheet.now) (object.now ∷ []) ∷ []) }
-{
-    if is_unpriced(sheet, object) {
         return Err(Refusal::NoPrice);
     }
     Ok(())
@@ -43,25 +33,15 @@ pub(crate) fn check_coefficients<T: Tariff>(
 }
 
 fn any_unpriced<T: Tariff>(sheet: &T, objects: &[RegisterEntry]) -> bool
-    ensures value { result ≡ any (unpriced (T.meaning sheet.now)) objects.now }
+    ensures value { result ≡ list_any (unpriced (T.meaning sheet.now)) objects.now }
 {
-    for object in objects {
-        if is_unpriced(sheet, object) {
-            return true;
-        }
-    }
-    false
+    objects.iter().any(|object| is_unpriced(sheet, object))
 }
 
 fn any_unrated<T: Tariff>(sheet: &T, date: u32, objects: &[RegisterEntry]) -> bool
-    ensures value { result ≡ any (unrated (T.meaning sheet.now) date) objects.now }
+    ensures value { result ≡ list_any (unrated (T.meaning sheet.now) date) objects.now }
 {
-    for object in objects {
-        if is_unrated(sheet, date, object) {
-            return true;
-        }
-    }
-    false
+    objects.iter().any(|object| is_unrated(sheet, date, object))
 }
 
 fn is_unpriced<T: Tariff>(sheet: &T, object: &RegisterEntry) -> bool

@@ -1,24 +1,19 @@
 // What is billed: the lines of a commitment or raise, and those of an object that is entered.
-ghost use Rattle.std.specs.Prelude.{◌≡◌, ◌*◌, ◌≤◌, false, T as Holds, length, take};
+ghost use Rattle.std.specs.Prelude.{◌≡◌, ◌*◌, ◌≤◌, T as Holds, length};
 ghost use Rattle.calendar.specs.Days.{is_date};
-ghost use Rattle.book.specs.Limits.{most_amount, most_tranches};
-ghost use Rattle.book.specs.Lists.{any, one_of, written};
+ghost use Rattle.book.specs.Limits.{most_amount};
+ghost use Rattle.book.specs.Lists.{written};
 ghost use Rattle.book.specs.Lines.{line};
 ghost use Rattle.book.specs.Members.{members_of};
-ghost use Rattle.book.specs.Billing.{price_at, coefficient_at, unit_price, unit_contribution, bill as billing_of, charged};
+ghost use Rattle.book.specs.Billing.{bill as billing_of, charged};
 ghost use Rattle.book.specs.Increases.{addition_in, lines_of, lines_billed};
-ghost use Rattle.book.specs.Refusals.{entry_faults, object_faults};
 
-use crate::entries::{RegisterEntry, RollEntry};
+use crate::counted::{Object, Objects, Operators};
+use crate::entries::RegisterEntry;
 use crate::increase::Increase;
 use crate::lines::{Line, Nature};
 use crate::weights::rate_of;
-use tariff::kinds::Coefficient;
-use tariff::quotient::Quotient;
 use tariff::tariff::Tariff;
-
-// Hundredths in a whole.
-const WHOLE: u32 = 100;
 
 // The line of a unit and a quantity.
 pub(crate) fn line_of(nature: Nature, operator: u32, object: u32, unit: u64, quantity: u32) -> Line
@@ -35,105 +30,34 @@ pub(crate) fn line_of(nature: Nature, operator: u32, object: u32, unit: u64, qua
     }
 }
 
-// The price per tranche and dwelling of an object.
-fn price_at<T: Tariff>(sheet: &T, object: &RegisterEntry) -> u64
-    requires sound { one_of (object_faults object.now) ≡ false }
-    ensures value { result ≡ price_at (T.meaning sheet.now) object.now.kind object.now.installed }
-    ensures most { result ≤ 500000000 }
-{
-    u64::from(sheet.price(object.kind, object.installed).unwrap_or(0))
-}
-
-// The coefficient of two days.
-fn coefficient_at<T: Tariff>(sheet: &T, installed: u32, date: u32) -> Coefficient
-    ensures value { result ≡ coefficient_at (T.meaning sheet.now) installed date }
-{
-    let none = Coefficient {
-        numerator: 0,
-        denominator: 1,
-    };
-    sheet.coefficient(installed, date).unwrap_or(none)
-}
-
-// What a dwelling of an object costs for some tranches, on a day.
-pub(crate) fn unit_price<T: Tariff>(
-    sheet: &T,
-    object: &RegisterEntry,
-    date: u32,
-    tranches: u32,
-) -> u64
-    requires few { tranches ≤ most_tranches }
-    requires real { Holds (is_date date) }
-    requires sound { one_of (object_faults object.now) ≡ false }
-    ensures value { result ≡ unit_price (T.meaning sheet.now) object.now.kind object.now.installed date tranches }
-    ensures most { result ≤ 40000000000 }
-{
-    let price = price_at(sheet, object) * u64::from(tranches);
-    if object.installed >= date {
-        return price;
-    }
-    let coefficient = coefficient_at(sheet, object.installed, date);
-    sheet.rounded(Quotient {
-        numerator: price * u64::from(coefficient.numerator),
-        denominator: coefficient.denominator,
-    })
-}
-
-// What of it goes to the earlier operators.
-pub(crate) fn unit_contribution<T: Tariff>(
-    sheet: &T,
-    object: &RegisterEntry,
-    date: u32,
-    tranches: u32,
-) -> u64
-    requires few { tranches ≤ most_tranches }
-    requires sound { one_of (object_faults object.now) ≡ false }
-    ensures value { result ≡ unit_contribution (T.meaning sheet.now) object.now.kind object.now.installed date tranches }
-    ensures most { result ≤ 10000000000 }
-{
-    if object.installed >= date {
-        return 0;
-    }
-    let price = price_at(sheet, object) * u64::from(tranches);
-    sheet.rounded(Quotient {
-        numerator: price * u64::from(sheet.contribution()),
-        denominator: WHOLE,
-    })
-}
-
-// Writes the lines of a commitment or raise for every object of a register, and gives their number.
+// Writes the lines of a commitment or raise for every object, and gives their number. An object has one line or two, so
+// that the place of the next line is kept beside the strip: an iterator over its places would have to be asked for each.
 pub(crate) fn bill<T: Tariff>(
     sheet: &T,
     increase: Increase,
-    register: &[RegisterEntry],
+    objects: Objects<'_>,
     strip: &mut [Line],
 ) -> usize
-    requires few { increase.tranches ≤ most_tranches }
     requires real { Holds (is_date increase.date) }
-    requires sound { any (λ o. one_of (object_faults o)) register.now ≡ false }
-    requires room { length (billing_of (T.meaning sheet.now) (addition_in increase) register.now) ≤ length strip.old }
-    ensures number { result ≡ length (billing_of (T.meaning sheet.now) (addition_in increase) register.now) }
-    ensures strip { strip.new ≡ written (billing_of (T.meaning sheet.now) (addition_in increase) register.now) strip.old }
+    requires room { length (billing_of (T.meaning sheet.now) (addition_in increase) objects.items.now) ≤ length strip.old }
+    ensures number { result ≡ length (billing_of (T.meaning sheet.now) (addition_in increase) objects.entry.items.now) }
+    ensures strip { strip.new ≡ written (billing_of (T.meaning sheet.now) (addition_in increase) objects.entry.items.now) strip.old }
 {
+    let operator = increase.operator;
     let mut next = 0;
-    for object in register {
-        let price = unit_price(sheet, object, increase.date, increase.tranches);
-        strip[next] = line_of(
-            Nature::Charge,
-            increase.operator,
-            object.object,
-            price,
-            object.dwellings,
-        );
+    for item in objects.items {
+        let object = Object { item };
+        let price = object.unit_price(sheet, increase);
+        strip[next] = line_of(Nature::Charge, operator, item.object, price, item.dwellings);
         next += 1;
-        if object.installed < increase.date {
-            let part = unit_contribution(sheet, object, increase.date, increase.tranches);
+        if item.installed < increase.date {
+            let part = object.unit_contribution(sheet, increase);
             strip[next] = line_of(
                 Nature::Contribution,
-                increase.operator,
-                object.object,
+                operator,
+                item.object,
                 part,
-                object.dwellings,
+                item.dwellings,
             );
             next += 1;
         }
@@ -141,51 +65,28 @@ pub(crate) fn bill<T: Tariff>(
     next
 }
 
-// Writes the charge lines of an entered object, one for each operator of a roll, and gives their number.
+// Writes the charge lines of an entered object, one for each operator, and gives their number.
 pub(crate) fn charge<T: Tariff>(
     sheet: &T,
-    object: &RegisterEntry,
-    roll: &[RollEntry],
+    object: Object<'_>,
+    operators: Operators<'_>,
     strip: &mut [Line],
 ) -> usize
-    requires object { one_of (object_faults object.now) ≡ false }
-    requires sound { any (λ e. one_of (entry_faults e)) roll.now ≡ false }
-    requires room { length (charged (T.meaning sheet.now) object.now (members_of roll.now)) ≤ length strip.old }
-    ensures number { result ≡ length (charged (T.meaning sheet.now) object.now (members_of roll.now)) }
-    ensures strip { strip.new ≡ written (charged (T.meaning sheet.now) object.now (members_of roll.now)) strip.old }
+    requires room { length (charged (T.meaning sheet.now) object.item.now (members_of operators.items.now)) ≤ length strip.old }
+    ensures number { result ≡ length (charged (T.meaning sheet.now) object.entry.item.now (members_of operators.entry.items.now)) }
+    ensures strip { strip.new ≡ written (charged (T.meaning sheet.now) object.entry.item.now (members_of operators.entry.items.now)) strip.old }
 {
-    let price = price_at(sheet, object);
-    let mut next = 0;
-    for member in roll {
-        let unit = price * rate_of(&member.tranches);
-        strip[next] = line_of(
+    let price = object.price(sheet);
+    for (place, member) in operators.items.iter().enumerate() {
+        strip[place] = line_of(
             Nature::Charge,
             member.operator,
-            object.object,
-            unit,
-            object.dwellings,
+            object.item.object,
+            price * rate_of(&member.tranches),
+            object.item.dwellings,
         );
-        next += 1;
     }
-    next
-}
-
-// The same for the counted entries of a roll.
-pub(crate) fn charge_counted<T: Tariff>(
-    sheet: &T,
-    object: &RegisterEntry,
-    roll: &[RollEntry],
-    counted: usize,
-    strip: &mut [Line],
-) -> usize
-    requires long { counted ≤ length roll.now }
-    requires object { one_of (object_faults object.now) ≡ false }
-    requires sound { any (λ e. one_of (entry_faults e)) (take counted roll.now) ≡ false }
-    requires room { length (charged (T.meaning sheet.now) object.now (members_of (take counted roll.now))) ≤ length strip.old }
-    ensures number { result ≡ length (charged (T.meaning sheet.now) object.now (members_of (take counted roll.now))) }
-    ensures strip { strip.new ≡ written (charged (T.meaning sheet.now) object.now (members_of (take counted roll.now))) strip.old }
-{
-    charge(sheet, object, &roll[0..counted], strip)
+    operators.items.len()
 }
 
 // How many lines a commitment or raise of a day has: two for each object that was installed earlier, one for the others.
@@ -204,23 +105,4 @@ fn lines_of(object: &RegisterEntry, date: u32) -> usize
     ensures most { result ≤ 2 }
 {
     if object.installed < date { 2 } else { 1 }
-}
-
-// The lines of a commitment or raise for the counted entries of a register.
-pub(crate) fn bill_counted<T: Tariff>(
-    sheet: &T,
-    increase: Increase,
-    register: &[RegisterEntry],
-    counted: usize,
-    strip: &mut [Line],
-) -> usize
-    requires long { counted ≤ length register.now }
-    requires few { increase.tranches ≤ most_tranches }
-    requires real { Holds (is_date increase.date) }
-    requires sound { any (λ o. one_of (object_faults o)) (take counted register.now) ≡ false }
-    requires room { length (billing_of (T.meaning sheet.now) (addition_in increase) (take counted register.now)) ≤ length strip.old }
-    ensures number { result ≡ length (billing_of (T.meaning sheet.now) (addition_in increase) (take counted register.now)) }
-    ensures strip { strip.new ≡ written (billing_of (T.meaning sheet.now) (addition_in increase) (take counted register.now)) strip.old }
-{
-    bill(sheet, increase, &register[0..counted], strip)
 }

@@ -18,3 +18,22 @@ pub struct RegisterEntry {
     pub installed: u32,
     pub dwellings: u32,
 }
+
+impl RollEntry {
+    // What a place of a roll holds before an operator is entered there.
+    pub const BLANK: RollEntry = RollEntry {
+        operator: 0,
+        tranches: [0; YEARS],
+        balance: 0,
+    };
+}
+
+impl RegisterEntry {
+    // What a place of a register holds before an object is entered there.
+    pub const BLANK: RegisterEntry = RegisterEntry {
+        object: 0,
+        kind: Kind::Covered,
+        installed: 0,
+        dwellings: 0,
+    };
+}

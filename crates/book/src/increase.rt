@@ -1,4 +1,6 @@
 // What a commitment or raise adds.
+ghost use Rattle.std.specs.Prelude.{◌≤◌};
+ghost use Rattle.book.specs.Limits.{most_index, most_tranches};
 
 // The tranches that an operator adds to its rate, on a day that lies in a year index of the zone.
 #[derive(Clone, Copy)]
@@ -7,4 +9,6 @@ pub(crate) struct Increase {
     pub(crate) date: u32,
     pub(crate) index: u32,
     pub(crate) tranches: u32,
+    ghost few: { tranches ≤ most_tranches },
+    ghost in_time: { index ≤ most_index },
 }

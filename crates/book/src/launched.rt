@@ -4,7 +4,8 @@ ghost use Rattle.book.specs.Limits.{most_operators, most_objects};
 
 use crate::zone::Figures;
 
-// It takes openings, cablings, and commitments and raises that bill.
+// It takes openings, cablings, and commitments and raises that bill. Each of the three states keeps its numbers itself,
+// with their limits and the same two questions: a struct within all three would be one more name in every contract.
 #[derive(Drop)]
 pub struct LaunchedZone {
     pub(crate) figures: Figures,

@@ -1,4 +1,7 @@
-// The calls of a launched zone.
+// The calls of a launched zone. The sheet, the tables and the strip are lent one by one, so that a call's signature says
+// which of them it can change; a struct of all four would lend them all to change. A commitment and a raise differ in one
+// word, and stay two calls: the rules name them so, each takes the numbers that the rules list for it, and a raise alone
+// has the cuts law on its contract.
 ghost use Rattle.std.specs.Prelude.{◌≡◌, length, IfErr};
 ghost use Rattle.book.specs.Zone.{strip_after};
 ghost use Rattle.book.specs.Answers.{installation, billing};
@@ -7,13 +10,14 @@ ghost use Rattle.book.specs.Passing.{tables};
 ghost use Rattle.book.specs.Promises.{launched_on, levied_on, written_answer, LivesOn, CutsFairly};
 
 use crate::adding::increase_of;
-use crate::bill::{bill_counted, charge_counted};
+use crate::bill::{bill, charge};
+use crate::counted::{Object, Objects, Operators};
 use crate::entries::{RegisterEntry, RollEntry};
 use crate::launched::LaunchedZone;
 use crate::levy::OpenLevy;
 use crate::lines::Line;
-use crate::order::{check_billing, check_installation};
 use crate::refused::Refused;
+use crate::tables::Tables;
 use crate::written::Written;
 use crate::zone::{Change, Event, Figures};
 use calendar::year_index;
@@ -131,30 +135,22 @@ impl LaunchedZone {
         ensures strip { strip.new ≡ strip_after strip.old (installation (T.meaning sheet.now) self.figures self.launch_date (tables roll.now register.old) (length strip.old) object) }
         ensures kept { IfErr result (λ back. (back.kept ≡ self) × (register.new ≡ register.old)) }
     {
-        match check_installation(
-            sheet,
-            &self.figures,
-            self.launch_date,
-            roll,
-            register,
-            strip.len(),
-            &object,
-        ) {
+        match self.check_installation(sheet, Tables { roll, register }, strip.len(), &object) {
             Ok(()) => {
                 let LaunchedZone {
                     figures,
                     launch_date,
                 } = self;
-                let operators = figures.operators;
-                let objects = figures.objects;
-                let lines = charge_counted(sheet, &object, roll, operators, strip);
-                register[objects] = object;
+                let operators = Operators {
+                    items: &roll[..figures.operators],
+                };
+                let lines = charge(sheet, Object { item: &object }, operators, strip);
+                register[figures.objects] = object;
                 let zone = LaunchedZone {
                     figures: Figures {
                         last: Some(object.installed),
-                        operators,
-                        objects: objects + 1,
-                        totals: figures.totals,
+                        objects: figures.objects + 1,
+                        ..figures
                     },
                     launch_date,
                 };
@@ -180,31 +176,22 @@ impl LaunchedZone {
         ensures strip { strip.new ≡ strip_after strip.old (billing (T.meaning sheet.now) self.figures self.launch_date (tables roll.now register.now) (length strip.old) event) }
         ensures kept { IfErr result (λ back. back.kept ≡ self) }
     {
-        match check_billing(
-            sheet,
-            &self.figures,
-            self.launch_date,
-            roll,
-            register,
-            strip.len(),
-            &event,
-        ) {
+        match self.check_billing(sheet, Tables { roll, register }, strip.len(), &event) {
             Ok(()) => {
                 let LaunchedZone {
                     figures,
                     launch_date,
                 } = self;
-                let operators = figures.operators;
-                let objects = figures.objects;
                 let index = year_index(launch_date, event.date);
-                let increase = increase_of(&event, index, roll, operators);
-                let lines = bill_counted(sheet, increase, register, objects, strip);
+                let increase = increase_of(&event, index, &roll[..figures.operators]);
+                let objects = Objects {
+                    items: &register[..figures.objects],
+                };
+                let lines = bill(sheet, increase, objects, strip);
                 let zone = OpenLevy {
                     figures: Figures {
                         last: Some(event.date),
-                        operators,
-                        objects,
-                        totals: figures.totals,
+                        ..figures
                     },
                     launch_date,
                     event,

@@ -4,6 +4,7 @@ ghost use Rattle.calendar.specs.Days.{index_of};
 ghost use Rattle.book.specs.Limits.{most_operators, most_objects, most_index};
 
 use crate::zone::{Event, Figures};
+use calendar::year_index;
 
 // It takes a share-out and nothing else. It has no `Drop`, so that no code can let it go: a levy may not lapse.
 pub struct OpenLevy {
@@ -35,5 +36,12 @@ impl OpenLevy {
         ensures value { result ≡ self.now.event }
     {
         self.event
+    }
+
+    // The year index of the event.
+    pub(crate) const fn index(&self) -> u32
+        ensures value { result ≡ index_of self.now.launch_date self.now.event.date }
+    {
+        year_index(self.launch_date, self.event.date)
     }
 }

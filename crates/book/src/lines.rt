@@ -29,3 +29,15 @@ pub struct Line {
     pub quantity: u32,
     pub total: u64,
 }
+
+impl Line {
+    // What a place of a strip holds before a line is written there.
+    pub const BLANK: Line = Line {
+        nature: Nature::Charge,
+        operator: 0,
+        object: 0,
+        unit: 0,
+        quantity: 0,
+        total: 0,
+    };
+}

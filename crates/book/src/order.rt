@@ -1,160 +1,139 @@
 // All checks of each call, in their order, on what is borrowed: nothing is moved or written before they pass.
-ghost use Rattle.std.specs.Prelude.{◌≡◌, ◌≤◌, false, [], ◌∷◌, length, take, nat_lt};
+ghost use Rattle.std.specs.Prelude.{◌≡◌, [], ◌∷◌, take, nat_lt};
 ghost use Rattle.refusal.specs.Checks.{◌⇒◌, in_turn};
 ghost use Rattle.refusal.specs.declared.Refusal.TheVariants.{StripTooShort};
-ghost use Rattle.book.specs.Refusals.{tables_check, date_checks, index_check, roll_checks, register_checks, price_check, coefficient_check, entry_faults, object_faults};
+ghost use Rattle.calendar.specs.Days.{index_of};
+ghost use Rattle.book.specs.Refusals.{tables_check, date_checks, index_check, roll_checks, register_checks, price_check, coefficient_check};
 ghost use Rattle.book.specs.Increases.{addition_in, lines_billed, lines_shared};
-ghost use Rattle.book.specs.Lists.{any, one_of};
-ghost use Rattle.book.specs.Limits.{most_index, most_objects, most_operators, most_tranches};
 ghost use Rattle.book.specs.Members.{addition, members_of};
 ghost use Rattle.book.specs.Passing.{tables};
 
 use crate::adding::increase_of;
-use crate::asking::{check_coefficients, check_price, check_prices};
+use crate::asking::{check_coefficients, check_prices};
 use crate::bill::lines_billed;
 use crate::checks::{check_date, check_index, check_register, check_roll, check_strip};
-use crate::entries::{RegisterEntry, RollEntry};
+use crate::counted::{Objects, Operators};
+use crate::entries::RegisterEntry;
 use crate::increase::Increase;
+use crate::launched::LaunchedZone;
+use crate::levy::OpenLevy;
+use crate::prepared::PreparedZone;
 use crate::share::lines_shared;
-use crate::tables::check_tables;
-use crate::zone::{Event, Figures};
+use crate::tables::{Tables, check_tables};
+use crate::zone::Event;
 use refusal::Refusal;
+use std::slice;
 use tariff::tariff::Tariff;
 
-// A launch: tables and date.
-pub(crate) fn check_launch(
-    figures: &Figures,
-    roll: &[RollEntry],
-    register: &[RegisterEntry],
-    date: u32,
-) -> Result<(), Refusal>
-    ensures answer { result ≡ in_turn (tables_check figures.now (tables roll.now register.now) ∷ []) (date_checks figures.now date ∷ []) }
-{
-    check_tables(figures, roll, register)?;
-    check_date(figures, date)
+impl PreparedZone {
+    // A launch: tables and date.
+    pub(crate) fn check_launch(&self, lent: Tables<'_>, date: u32) -> Result<(), Refusal>
+        ensures answer { result ≡ in_turn (tables_check self.now.figures (tables lent.entry.roll.now lent.entry.register.now) ∷ []) (date_checks self.now.figures date ∷ []) }
+    {
+        check_tables(&self.figures, lent)?;
+        check_date(&self.figures, date)
+    }
+
+    // A commitment or raise before the launch: tables, date and roll.
+    pub(crate) fn check_subscription(&self, lent: Tables<'_>, event: &Event) -> Result<(), Refusal>
+        ensures answer { result ≡ in_turn (tables_check self.now.figures (tables lent.entry.roll.now lent.entry.register.now) ∷ []) (date_checks self.now.figures event.now.date ∷ roll_checks self.now.figures (tables lent.entry.roll.now lent.entry.register.now) event.now ∷ []) }
+    {
+        check_tables(&self.figures, lent)?;
+        check_date(&self.figures, event.date)?;
+        check_roll(&self.figures, lent, event)
+    }
 }
 
-// A commitment or raise before the launch: tables, date and roll.
-pub(crate) fn check_subscription(
-    figures: &Figures,
-    roll: &[RollEntry],
-    register: &[RegisterEntry],
-    event: &Event,
-) -> Result<(), Refusal>
-    ensures answer { result ≡ in_turn (tables_check figures.now (tables roll.now register.now) ∷ []) (date_checks figures.now event.now.date ∷ roll_checks figures.now (tables roll.now register.now) event.now ∷ []) }
-{
-    check_tables(figures, roll, register)?;
-    check_date(figures, event.date)?;
-    check_roll(figures, roll, register, event)
+impl LaunchedZone {
+    // An opening or cabling: tables, date, index, register, price and strip. Each operator gets a line.
+    pub(crate) fn check_installation<T: Tariff>(
+        &self,
+        sheet: &T,
+        lent: Tables<'_>,
+        places: usize,
+        object: &RegisterEntry,
+    ) -> Result<(), Refusal>
+        ensures answer { result ≡ in_turn (tables_check self.now.figures (tables lent.entry.roll.now lent.entry.register.now) ∷ []) (date_checks self.now.figures object.now.installed ∷ (index_check self.now.launch_date object.now.installed ∷ []) ∷ register_checks self.now.figures (tables lent.entry.roll.now lent.entry.register.now) object.now ∷ (price_check (T.meaning sheet.now) (object.now ∷ []) ∷ []) ∷ ((nat_lt places self.now.figures.operators ⇒ StripTooShort) ∷ []) ∷ []) }
+    {
+        check_tables(&self.figures, lent)?;
+        check_date(&self.figures, object.installed)?;
+        check_index(self.launch_date, object.installed)?;
+        check_register(&self.figures, lent, object)?;
+        check_prices(sheet, slice::from_ref(object))?;
+        check_strip(places, self.figures.operators)
+    }
+
+    // A commitment or raise that bills: tables, date, index, roll, prices, coefficients and strip.
+    pub(crate) fn check_billing<T: Tariff>(
+        &self,
+        sheet: &T,
+        lent: Tables<'_>,
+        places: usize,
+        event: &Event,
+    ) -> Result<(), Refusal>
+        ensures answer { result ≡ in_turn (tables_check self.now.figures (tables lent.entry.roll.now lent.entry.register.now) ∷ []) (date_checks self.now.figures event.now.date ∷ (index_check self.now.launch_date event.now.date ∷ []) ∷ roll_checks self.now.figures (tables lent.entry.roll.now lent.entry.register.now) event.now ∷ (price_check (T.meaning sheet.now) (take self.now.figures.objects lent.entry.register.now) ∷ []) ∷ (coefficient_check (T.meaning sheet.now) event.now.date (take self.now.figures.objects lent.entry.register.now) ∷ []) ∷ ((nat_lt places (lines_billed event.now.date (take self.now.figures.objects lent.entry.register.now)) ⇒ StripTooShort) ∷ []) ∷ []) }
+    {
+        check_tables(&self.figures, lent)?;
+        check_date(&self.figures, event.date)?;
+        check_index(self.launch_date, event.date)?;
+        check_roll(&self.figures, lent, event)?;
+        check_bill(
+            sheet,
+            &lent.register[..self.figures.objects],
+            event.date,
+            places,
+        )
+    }
 }
 
-// An opening or cabling: tables, date, index, register, price and strip. Each operator gets a line.
-pub(crate) fn check_installation<T: Tariff>(
-    sheet: &T,
-    figures: &Figures,
-    launch_date: u32,
-    roll: &[RollEntry],
-    register: &[RegisterEntry],
-    places: usize,
-    object: &RegisterEntry,
-) -> Result<(), Refusal>
-    ensures answer { result ≡ in_turn (tables_check figures.now (tables roll.now register.now) ∷ []) (date_checks figures.now object.now.installed ∷ (index_check launch_date object.now.installed ∷ []) ∷ register_checks figures.now (tables roll.now register.now) object.now ∷ (price_check (T.meaning sheet.now) (object.now ∷ []) ∷ []) ∷ ((nat_lt places figures.now.operators ⇒ StripTooShort) ∷ []) ∷ []) }
-{
-    check_tables(figures, roll, register)?;
-    check_date(figures, object.installed)?;
-    check_index(launch_date, object.installed)?;
-    check_register(figures, roll, register, object)?;
-    check_price(sheet, object)?;
-    check_strip(places, figures.operators)
+impl OpenLevy {
+    // A share-out: tables, roll, prices and strip. It has no date, and its coefficients were asked when it was billed.
+    pub(crate) fn check_share_out<T: Tariff>(
+        &self,
+        sheet: &T,
+        lent: Tables<'_>,
+        places: usize,
+    ) -> Result<(), Refusal>
+        ensures answer { result ≡ in_turn (tables_check self.now.figures (tables lent.entry.roll.now lent.entry.register.now) ∷ []) (roll_checks self.now.figures (tables lent.entry.roll.now lent.entry.register.now) self.now.event ∷ (price_check (T.meaning sheet.now) (take self.now.figures.objects lent.entry.register.now) ∷ []) ∷ ((nat_lt places (lines_shared (T.meaning sheet.now) (addition (index_of self.now.launch_date self.now.event.date) self.now.event (members_of (take self.now.figures.operators lent.entry.roll.now))) (take self.now.figures.objects lent.entry.register.now) (members_of (take self.now.figures.operators lent.entry.roll.now))) ⇒ StripTooShort) ∷ []) ∷ []) }
+    {
+        check_tables(&self.figures, lent)?;
+        check_roll(&self.figures, lent, &self.event)?;
+        let operators = Operators {
+            items: &lent.roll[..self.figures.operators],
+        };
+        let objects = Objects {
+            items: &lent.register[..self.figures.objects],
+        };
+        let increase = increase_of(&self.event, self.index(), operators.items);
+        check_shares(sheet, increase, objects, operators, places)
+    }
 }
 
-// A commitment or raise that bills: tables, date, index, roll, prices, coefficients and strip.
-pub(crate) fn check_billing<T: Tariff>(
-    sheet: &T,
-    figures: &Figures,
-    launch_date: u32,
-    roll: &[RollEntry],
-    register: &[RegisterEntry],
-    places: usize,
-    event: &Event,
-) -> Result<(), Refusal>
-    ensures answer { result ≡ in_turn (tables_check figures.now (tables roll.now register.now) ∷ []) (date_checks figures.now event.now.date ∷ (index_check launch_date event.now.date ∷ []) ∷ roll_checks figures.now (tables roll.now register.now) event.now ∷ (price_check (T.meaning sheet.now) (take figures.now.objects register.now) ∷ []) ∷ (coefficient_check (T.meaning sheet.now) event.now.date (take figures.now.objects register.now) ∷ []) ∷ ((nat_lt places (lines_billed event.now.date (take figures.now.objects register.now)) ⇒ StripTooShort) ∷ []) ∷ []) }
-{
-    check_tables(figures, roll, register)?;
-    check_date(figures, event.date)?;
-    check_index(launch_date, event.date)?;
-    check_roll(figures, roll, register, event)?;
-    check_bill(sheet, register, figures.objects, event.date, places)
-}
-
-// What a bill asks of its sheet and strip, over the counted objects.
+// What a bill asks of its sheet and strip.
 fn check_bill<T: Tariff>(
     sheet: &T,
-    register: &[RegisterEntry],
-    counted: usize,
+    objects: &[RegisterEntry],
     date: u32,
     places: usize,
 ) -> Result<(), Refusal>
-    requires { counted ≤ length register.now }
-    ensures answer { result ≡ in_turn (price_check (T.meaning sheet.now) (take counted register.now) ∷ []) ((coefficient_check (T.meaning sheet.now) date (take counted register.now) ∷ []) ∷ ((nat_lt places (lines_billed date (take counted register.now)) ⇒ StripTooShort) ∷ []) ∷ []) }
+    ensures answer { result ≡ in_turn (price_check (T.meaning sheet.now) objects.now ∷ []) ((coefficient_check (T.meaning sheet.now) date objects.now ∷ []) ∷ ((nat_lt places (lines_billed date objects.now) ⇒ StripTooShort) ∷ []) ∷ []) }
 {
-    let objects = &register[0..counted];
     check_prices(sheet, objects)?;
     check_coefficients(sheet, date, objects)?;
     check_strip(places, lines_billed(objects, date))
 }
 
-// A share-out: tables, roll, prices and strip. It has no date, and its coefficients were asked when it was billed.
-pub(crate) fn check_share_out<T: Tariff>(
-    sheet: &T,
-    figures: &Figures,
-    index: u32,
-    roll: &[RollEntry],
-    register: &[RegisterEntry],
-    places: usize,
-    event: &Event,
-) -> Result<(), Refusal>
-    requires index { index ≤ most_index }
-    requires operators { figures.now.operators ≤ most_operators }
-    requires objects { figures.now.objects ≤ most_objects }
-    ensures answer { result ≡ in_turn (tables_check figures.now (tables roll.now register.now) ∷ []) (roll_checks figures.now (tables roll.now register.now) event.now ∷ (price_check (T.meaning sheet.now) (take figures.now.objects register.now) ∷ []) ∷ ((nat_lt places (lines_shared (T.meaning sheet.now) (addition index event.now (members_of (take figures.now.operators roll.now))) (take figures.now.objects register.now) (members_of (take figures.now.operators roll.now))) ⇒ StripTooShort) ∷ []) ∷ []) }
-{
-    check_tables(figures, roll, register)?;
-    check_roll(figures, roll, register, event)?;
-    let increase = increase_of(event, index, roll, figures.operators);
-    check_shares(
-        sheet,
-        increase,
-        register,
-        figures.objects,
-        roll,
-        figures.operators,
-        places,
-    )
-}
-
-// What a share-out asks of its sheet and strip, over the counted objects and operators.
+// What a share-out asks of its sheet and strip.
 fn check_shares<T: Tariff>(
     sheet: &T,
     increase: Increase,
-    register: &[RegisterEntry],
-    objects: usize,
-    roll: &[RollEntry],
-    operators: usize,
+    objects: Objects<'_>,
+    operators: Operators<'_>,
     places: usize,
 ) -> Result<(), Refusal>
-    requires few { increase.tranches ≤ most_tranches }
-    requires index { increase.index ≤ most_index }
-    requires objects { objects ≤ most_objects }
-    requires operators { operators ≤ most_operators }
-    requires long_register { objects ≤ length register.now }
-    requires long_roll { operators ≤ length roll.now }
-    requires register { any (λ o. one_of (object_faults o)) (take objects register.now) ≡ false }
-    requires roll { any (λ e. one_of (entry_faults e)) (take operators roll.now) ≡ false }
-    ensures answer { result ≡ in_turn (price_check (T.meaning sheet.now) (take objects register.now) ∷ []) (((nat_lt places (lines_shared (T.meaning sheet.now) (addition_in increase) (take objects register.now) (members_of (take operators roll.now))) ⇒ StripTooShort) ∷ []) ∷ []) }
+    ensures answer { result ≡ in_turn (price_check (T.meaning sheet.now) objects.entry.items.now ∷ []) (((nat_lt places (lines_shared (T.meaning sheet.now) (addition_in increase) objects.entry.items.now (members_of operators.entry.items.now)) ⇒ StripTooShort) ∷ []) ∷ []) }
 {
-    let counted = &register[..objects];
-    check_prices(sheet, counted)?;
-    let lines = lines_shared(sheet, increase, counted, &roll[..operators]);
+    check_prices(sheet, objects.items)?;
+    let lines = lines_shared(sheet, increase, objects, operators);
     check_strip(places, lines)
 }

@@ -1,4 +1,5 @@
-// The calls of a zone before its launch.
+// The calls of a zone before its launch. A commitment and a raise stay two calls, as after the launch: the rules name them
+// so.
 ghost use Rattle.std.specs.Prelude.{◌≡◌, [], IfErr};
 ghost use Rattle.tariff.specs.Meaning.{Meaning, Lawful};
 ghost use Rattle.book.specs.Answers.{launching, subscription};
@@ -11,9 +12,9 @@ use crate::adding::increase_of;
 use crate::enter::enter;
 use crate::entries::{RegisterEntry, RollEntry};
 use crate::launched::LaunchedZone;
-use crate::order::{check_launch, check_subscription};
 use crate::prepared::PreparedZone;
 use crate::refused::Refused;
+use crate::tables::Tables;
 use crate::zone::{Change, Event, Figures, Totals};
 
 impl PreparedZone {
@@ -92,27 +93,13 @@ impl PreparedZone {
         ensures kept { IfErr result (λ back. back.kept ≡ self) }
         ensures life { (m : Meaning) → Lawful m → LivesOn m (prepared self (tables roll.now register.now)) (call_launch date) (answered launched_on (tables roll.now register.now) [] result) }
     {
-        self.launched(roll, register, date)
-    }
-
-    fn launched(
-        self,
-        roll: &[RollEntry],
-        register: &[RegisterEntry],
-        date: u32,
-    ) -> Result<LaunchedZone, Refused<PreparedZone>>
-        ensures answer { answered launched_on (tables roll.now register.now) [] result ≡ launching self.figures (tables roll.now register.now) date }
-        ensures kept { IfErr result (λ back. back.kept ≡ self) }
-    {
-        match check_launch(&self.figures, roll, register, date) {
+        match self.check_launch(Tables { roll, register }, date) {
             Ok(()) => {
                 let PreparedZone { figures } = self;
                 Ok(LaunchedZone {
                     figures: Figures {
                         last: Some(date),
-                        operators: figures.operators,
-                        objects: figures.objects,
-                        totals: figures.totals,
+                        ..figures
                     },
                     launch_date: date,
                 })
@@ -134,17 +121,16 @@ impl PreparedZone {
         ensures answer { answered prepared (tables roll.new register.now) [] result ≡ subscription self.figures (tables roll.old register.now) event }
         ensures kept { IfErr result (λ back. (back.kept ≡ self) × (roll.new ≡ roll.old)) }
     {
-        match check_subscription(&self.figures, roll, register, &event) {
+        match self.check_subscription(Tables { roll, register }, &event) {
             Ok(()) => {
                 let PreparedZone { figures } = self;
-                let increase = increase_of(&event, 0, roll, figures.operators);
+                let increase = increase_of(&event, 0, &roll[..figures.operators]);
                 let operators = enter(increase, roll, figures.operators);
                 Ok(PreparedZone {
                     figures: Figures {
                         last: Some(event.date),
                         operators,
-                        objects: figures.objects,
-                        totals: figures.totals,
+                        ..figures
                     },
                 })
             }

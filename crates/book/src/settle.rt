@@ -1,15 +1,17 @@
 // The effect of a share-out on roll and strip: the credits, then the tranches of the event.
 ghost use Rattle.std.specs.Prelude.{◌≡◌, ◌≤◌, false, length, take};
-ghost use Rattle.book.specs.Limits.{most_index, most_objects, most_operators, most_tranches};
-ghost use Rattle.book.specs.Lists.{any, one_of, total, written};
+ghost use Rattle.std.specs.List.{list_any};
+ghost use Rattle.book.specs.Limits.{most_operators};
+ghost use Rattle.book.specs.Lists.{one_of, total, written};
 ghost use Rattle.book.specs.Members.{members_of, entered_roll};
 ghost use Rattle.book.specs.Sharing.{object_contribution, credits, left_unshared};
 ghost use Rattle.book.specs.Answers.{credited_roll};
 ghost use Rattle.book.specs.Increases.{addition_in};
-ghost use Rattle.book.specs.Refusals.{entry_faults, object_faults};
+ghost use Rattle.book.specs.Refusals.{entry_faults};
 
+use crate::counted::Objects;
 use crate::enter::enter;
-use crate::entries::{RegisterEntry, RollEntry};
+use crate::entries::RollEntry;
 use crate::increase::Increase;
 use crate::lines::Line;
 use crate::share::share_out;
@@ -20,30 +22,26 @@ use tariff::tariff::Tariff;
 pub(crate) fn settle<T: Tariff>(
     sheet: &T,
     increase: Increase,
-    register: &[RegisterEntry],
+    objects: Objects<'_>,
     roll: &mut [RollEntry],
     counted: usize,
     strip: &mut [Line],
 ) -> (Totals, usize)
-    requires few { increase.tranches ≤ most_tranches }
-    requires index { increase.index ≤ most_index }
-    requires objects { length register.now ≤ most_objects }
     requires operators { counted ≤ most_operators }
     requires counted { counted ≤ length roll.old }
-    requires register { any (λ o. one_of (object_faults o)) register.now ≡ false }
-    requires roll { any (λ e. one_of (entry_faults e)) (take counted roll.old) ≡ false }
+    requires roll { list_any (λ e. one_of (entry_faults e)) (take counted roll.old) ≡ false }
     requires place { length (entered_roll (addition_in increase) (take counted roll.old)) ≤ length roll.old }
-    requires room { length (credits (T.meaning sheet.now) (addition_in increase) register.now (members_of (take counted roll.old))) ≤ length strip.old }
-    ensures contributed { result.0.contributed ≡ total (object_contribution (T.meaning sheet.now) (addition_in increase)) register.now }
-    ensures credited { result.0.credited ≡ total (λ l. l.total) (credits (T.meaning sheet.now) (addition_in increase) register.now (members_of (take counted roll.old))) }
-    ensures unshared { result.0.unshared ≡ left_unshared (T.meaning sheet.now) (addition_in increase) register.now (members_of (take counted roll.old)) }
-    ensures lines { result.0.credit_lines ≡ length (credits (T.meaning sheet.now) (addition_in increase) register.now (members_of (take counted roll.old))) }
+    requires room { length (credits (T.meaning sheet.now) (addition_in increase) objects.items.now (members_of (take counted roll.old))) ≤ length strip.old }
+    ensures contributed { result.0.contributed ≡ total (object_contribution (T.meaning sheet.now) (addition_in increase)) objects.entry.items.now }
+    ensures credited { result.0.credited ≡ total (λ l. l.total) (credits (T.meaning sheet.now) (addition_in increase) objects.entry.items.now (members_of (take counted roll.old))) }
+    ensures unshared { result.0.unshared ≡ left_unshared (T.meaning sheet.now) (addition_in increase) objects.entry.items.now (members_of (take counted roll.old)) }
+    ensures lines { result.0.credit_lines ≡ length (credits (T.meaning sheet.now) (addition_in increase) objects.entry.items.now (members_of (take counted roll.old))) }
     ensures most { (result.0.contributed ≤ 102400000000000000) × (result.0.credited ≤ 1638400000000000000) × (result.0.unshared ≤ 102400000000000000) × (result.0.credit_lines ≤ 16384) }
-    ensures strip { strip.new ≡ written (credits (T.meaning sheet.now) (addition_in increase) register.now (members_of (take counted roll.old))) strip.old }
-    ensures roll { roll.new ≡ written (entered_roll (addition_in increase) (credited_roll (T.meaning sheet.now) (addition_in increase) register.now (take counted roll.old))) roll.old }
-    ensures number { result.1 ≡ length (entered_roll (addition_in increase) (credited_roll (T.meaning sheet.now) (addition_in increase) register.now (take counted roll.old))) }
+    ensures strip { strip.new ≡ written (credits (T.meaning sheet.now) (addition_in increase) objects.entry.items.now (members_of (take counted roll.old))) strip.old }
+    ensures roll { roll.new ≡ written (entered_roll (addition_in increase) (credited_roll (T.meaning sheet.now) (addition_in increase) objects.entry.items.now (take counted roll.old))) roll.old }
+    ensures number { result.1 ≡ length (entered_roll (addition_in increase) (credited_roll (T.meaning sheet.now) (addition_in increase) objects.entry.items.now (take counted roll.old))) }
 {
-    let totals = share_out(sheet, increase, register, &mut roll[..counted], strip);
+    let totals = share_out(sheet, increase, objects, &mut roll[..counted], strip);
     let operators = enter(increase, roll, counted);
     (totals, operators)
 }

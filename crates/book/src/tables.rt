@@ -1,6 +1,7 @@
 // Whether the tables that a call is lent are lawful: what a counted entry may be, and that no number stands twice.
 ghost use Rattle.std.specs.Prelude.{◌≡◌, ℕ, Bool, [], ◌∷◌, nat_eq};
-ghost use Rattle.book.specs.Lists.{any, one_of, repeats};
+ghost use Rattle.std.specs.List.{list_any};
+ghost use Rattle.book.specs.Lists.{one_of, repeats};
 ghost use Rattle.book.specs.Refusals.{huge, entry_faults, object_faults, figure_faults, table_faults, tables_check};
 ghost use Rattle.refusal.specs.Checks.{passing};
 ghost use Rattle.book.specs.Passing.{tables};
@@ -11,6 +12,13 @@ use crate::weights::rate_of;
 use crate::zone::Figures;
 use calendar::is_date;
 use refusal::Refusal;
+
+// The tables that a call is lent.
+#[derive(Clone, Copy)]
+pub(crate) struct Tables<'a> {
+    pub(crate) roll: &'a [RollEntry],
+    pub(crate) register: &'a [RegisterEntry],
+}
 
 // An entry of a table: it has a number and limits of its own.
 pub(crate) trait Entry {
@@ -62,36 +70,28 @@ impl Entry for RegisterEntry {
 
 // Whether some entry is outside its limits.
 pub(crate) fn any_faulty<E: Entry>(entries: &[E]) -> bool
-    ensures value { result ≡ any E.faulty entries.now }
+    ensures value { result ≡ list_any E.faulty entries.now }
 {
-    for item in entries {
-        if item.is_faulty() {
-            return true;
-        }
-    }
-    false
+    entries.iter().any(|entry| entry.is_faulty())
 }
 
 // Whether some entry has a number.
 pub(crate) fn has_number<E: Entry>(entries: &[E], number: u32) -> bool
-    ensures value { result ≡ any (λ x. nat_eq (E.numbered x) number) entries.now }
+    ensures value { result ≡ list_any (λ x. nat_eq (E.numbered x) number) entries.now }
 {
-    for item in entries {
-        if item.number() == number {
-            return true;
-        }
-    }
-    false
+    entries.iter().any(|entry| entry.number() == number)
 }
 
 // Whether two entries have one number.
 pub(crate) fn repeats_number<E: Entry>(entries: &[E]) -> bool
     ensures value { result ≡ repeats E.numbered entries.now }
 {
-    for place in 0..entries.len() {
-        if has_number(&entries[place + 1..], entries[place].number()) {
+    let mut rest = entries;
+    while let [first, later @ ..] = rest {
+        if has_number(later, first.number()) {
             return true;
         }
+        rest = later;
     }
     false
 }
@@ -117,14 +117,14 @@ fn are_huge(figures: &Figures) -> bool
 }
 
 // Whether the tables have a place for each counted entry, and those entries are lawful.
-fn are_faulty(figures: &Figures, roll: &[RollEntry], register: &[RegisterEntry]) -> bool
-    ensures value { result ≡ one_of (table_faults figures.now (tables roll.now register.now)) }
+fn are_faulty(figures: &Figures, lent: Tables<'_>) -> bool
+    ensures value { result ≡ one_of (table_faults figures.now (tables lent.entry.roll.now lent.entry.register.now)) }
 {
-    if roll.len() < figures.operators || register.len() < figures.objects {
+    if lent.roll.len() < figures.operators || lent.register.len() < figures.objects {
         return true;
     }
-    let operators = &roll[0..figures.operators];
-    let objects = &register[0..figures.objects];
+    let operators = &lent.roll[..figures.operators];
+    let objects = &lent.register[..figures.objects];
     any_faulty(operators)
         || any_faulty(objects)
         || repeats_number(operators)
@@ -133,14 +133,10 @@ fn are_faulty(figures: &Figures, roll: &[RollEntry], register: &[RegisterEntry])
 }
 
 // Refuses tables that are not lawful, before anything else is asked.
-pub(crate) fn check_tables(
-    figures: &Figures,
-    roll: &[RollEntry],
-    register: &[RegisterEntry],
-) -> Result<(), Refusal>
-    ensures answer { result ≡ passing (tables_check figures.now (tables roll.now register.now) ∷ []) }
+pub(crate) fn check_tables(figures: &Figures, lent: Tables<'_>) -> Result<(), Refusal>
+    ensures answer { result ≡ passing (tables_check figures.now (tables lent.entry.roll.now lent.entry.register.now) ∷ []) }
 {
-    if are_faulty(figures, roll, register) {
+    if are_faulty(figures, lent) {
         return Err(Refusal::BadTables);
     }
     Ok(())

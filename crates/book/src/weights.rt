@@ -1,11 +1,11 @@
 // What tranches come to: a rate, and the weight by which contributions are shared.
-ghost use Rattle.std.specs.Prelude.{◌≡◌, ◌≤◌, false, length};
-ghost use Rattle.book.specs.Limits.{most_operators, most_index, most_tranches};
-ghost use Rattle.book.specs.Lists.{any, one_of};
+ghost use Rattle.std.specs.Prelude.{◌≡◌, ◌≤◌};
+ghost use Rattle.book.specs.Limits.{most_index, most_tranches};
 ghost use Rattle.book.specs.Members.{members_of, rate_of, weight_to, whole_weight};
-ghost use Rattle.book.specs.Refusals.{entry_faults};
 
+use crate::counted::Operators;
 use crate::entries::RollEntry;
+use crate::increase::Increase;
 use crate::limits::YEARS;
 use tariff::tariff::Tariff;
 
@@ -13,11 +13,7 @@ use tariff::tariff::Tariff;
 pub(crate) fn rate_of(tranches: &[u32; YEARS]) -> u64
     ensures value { result ≡ rate_of tranches.now }
 {
-    let mut rate = 0u64;
-    for count in tranches {
-        rate += u64::from(*count);
-    }
-    rate
+    tranches.iter().map(|count| u64::from(*count)).sum()
 }
 
 impl RollEntry {
@@ -37,23 +33,22 @@ pub(crate) fn weight_to<T: Tariff>(sheet: &T, tranches: &[u32; YEARS], index: u3
     ensures most { result ≤ 4000 }
 {
     let mut weight = 0u64;
-    for year in 0..index + 1 {
-        weight += u64::from(tranches[year as usize]) * u64::from(sheet.weight(year));
+    for (year, count) in tranches[..=index as usize].iter().enumerate() {
+        weight += u64::from(*count) * u64::from(sheet.weight(year as u32));
     }
     weight
 }
 
-// The weight of all operators of a roll together.
-pub(crate) fn whole_weight<T: Tariff>(sheet: &T, roll: &[RollEntry], index: u32) -> u32
-    requires index { index ≤ most_index }
-    requires few { length roll.now ≤ most_operators }
-    requires sound { any (λ e. one_of (entry_faults e)) roll.now ≡ false }
-    ensures value { result ≡ whole_weight (T.meaning sheet.now) index (members_of roll.now) }
-    ensures most { result ≤ 64000 }
-{
-    let mut whole = 0u32;
-    for member in roll {
-        whole += weight_to(sheet, &member.tranches, index) as u32;
+impl<'a> Operators<'a> {
+    // The weight of all operators together, in the year index of an increase.
+    pub(crate) fn whole_weight<T: Tariff>(self, sheet: &T, increase: Increase) -> u32
+        ensures value { result ≡ whole_weight (T.meaning sheet.now) increase.index (members_of self.entry.items.now) }
+        ensures most { result ≤ 64000 }
+    {
+        let mut whole = 0u32;
+        for member in self.items {
+            whole += weight_to(sheet, &member.tranches, increase.index) as u32;
+        }
+        whole
     }
-    whole
 }

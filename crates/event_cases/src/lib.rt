@@ -1,33 +1,52 @@
 // Whole, long and damaged event files, held to tables of what each must give.
 #![tactic(auto)]
 
+ghost use Rattle.std.specs.Prelude.{◌<◌};
+
 #[cfg(test)]
 mod tests {
     use event_file::block::check_block;
-    use event_file::event::Entry;
     use event_file::fault::Fault;
-    use event_file::reader::{Reader, Step};
+    use event_file::reader::Reader;
     use std::process::Abort;
 
-    // What the reading of a file comes to: its events and blanks, its refusals, and the last of these with its place.
+    // A refusal by its number, and by the numbers of its block and its entry.
     #[derive(Clone, Copy, PartialEq, Eq, Debug)]
-    struct Tally {
-        events: usize,
-        blanks: usize,
-        refusals: usize,
+    struct Noted {
         number: u8,
         block: usize,
         entry: usize,
     }
 
-    const NOTHING: Tally = Tally {
-        events: 0,
-        blanks: 0,
-        refusals: 0,
-        number: 0,
-        block: 0,
-        entry: 0,
-    };
+    impl From<Fault> for Noted {
+        fn from(fault: Fault) -> Noted {
+            Noted {
+                number: fault.refusal.number(),
+                block: fault.place.block(),
+                entry: fault.place.entry(),
+            }
+        }
+    }
+
+    // What the reading of a file comes to: its events and blanks, its refusals, and the last of these.
+    #[derive(Clone, Copy, PartialEq, Eq, Debug, Default)]
+    struct Tally {
+        events: usize,
+        blanks: usize,
+        refusals: usize,
+        last: Option<Noted>,
+    }
+
+    impl Tally {
+        // The tally with one more refusal.
+        fn with_fault(self, fault: Fault) -> Tally {
+            Tally {
+                refusals: self.refusals.saturating_add(1),
+                last: Some(Noted::from(fault)),
+                ..self
+            }
+        }
+    }
 
     // Three events: a commitment, a cabling by a third party, and a launch.
     const EVENTS: &[u8; 90] = b"\
@@ -36,106 +55,93 @@ S\x01\x33\xc6\x3e\x00\x00\x00\x07\x00\x00\x01\x2c\x01two             \
 L\x01\x33\xc6\x3f\x00\x00\x00\x00\x00\x00\x00\x00\x00three           ";
 
     // A byte put at an offset of the sample block, the two bytes of the block's check then, and what must be read: the
-    // events, the blanks, and the number and entry of the one refusal, or 0. Each check is the first 510 bytes modulo
-    // 65,521, by whole numbers of any size.
-    const CASES: [(usize, u8, u8, u8, usize, usize, u8, usize); 26] = [
+    // events, the blanks, and the number and entry of the one refusal, if there is one. Each check is the first 510 bytes
+    // modulo 65,521, by whole numbers of any size.
+    const CASES: [(usize, u8, u8, u8, usize, usize, Option<(u8, usize)>); 26] = [
         // the sample as it is
-        (0, b'E', 64, 212, 3, 14, 0, 0),
+        (0, b'E', 64, 212, 3, 14, None),
         // an unknown letter
-        (0, b'Z', 163, 155, 2, 14, 21, 1),
+        (0, b'Z', 163, 155, 2, 14, Some((21, 1))),
         // the digit 0 is no blank
-        (0, b'0', 221, 254, 2, 14, 21, 1),
+        (0, b'0', 221, 254, 2, 14, Some((21, 1))),
         // a blank that is not all zero, which is no blank for the entries after it
-        (0, 0, 215, 152, 2, 14, 22, 1),
+        (0, 0, 215, 152, 2, 14, Some((22, 1))),
         // a raise
-        (0, b'A', 192, 68, 3, 14, 0, 0),
+        (0, b'A', 192, 68, 3, 14, None),
         // an opening
-        (0, b'P', 226, 66, 3, 14, 0, 0),
+        (0, b'P', 226, 66, 3, 14, None),
         // a launch with numbers
-        (0, b'L', 97, 193, 2, 14, 23, 1),
+        (0, b'L', 97, 193, 2, 14, Some((23, 1))),
         // a commitment with form 1
-        (13, 1, 200, 168, 2, 14, 23, 1),
+        (13, 1, 200, 168, 2, 14, Some((23, 1))),
         // a site with form 2
-        (43, 2, 172, 173, 2, 14, 23, 2),
+        (43, 2, 172, 173, 2, 14, Some((23, 2))),
         // a site with form 0
-        (43, 0, 212, 236, 3, 14, 0, 0),
+        (43, 0, 212, 236, 3, 14, None),
         // a launch with an operator, in its high byte
-        (65, 1, 197, 1, 2, 14, 23, 3),
+        (65, 1, 197, 1, 2, 14, Some((23, 3))),
         // a launch with a rate, in its low byte
-        (72, 1, 252, 133, 2, 14, 23, 3),
+        (72, 1, 252, 133, 2, 14, Some((23, 3))),
         // a launch with form 1
-        (73, 1, 128, 140, 2, 14, 23, 3),
+        (73, 1, 128, 140, 2, 14, Some((23, 3))),
         // a label byte below 32
-        (14, 31, 86, 94, 2, 14, 23, 1),
+        (14, 31, 86, 94, 2, 14, Some((23, 1))),
         // the lowest label byte
-        (14, 32, 66, 231, 3, 14, 0, 0),
+        (14, 32, 66, 231, 3, 14, None),
         // the highest label byte
-        (29, 126, 154, 39, 3, 14, 0, 0),
+        (29, 126, 154, 39, 3, 14, None),
         // a label byte above 126
-        (29, 127, 217, 186, 2, 14, 23, 1),
+        (29, 127, 217, 186, 2, 14, Some((23, 1))),
         // the entry after a bad blank is read
-        (30, 0, 101, 52, 2, 14, 22, 2),
+        (30, 0, 101, 52, 2, 14, Some((22, 2))),
         // an unknown letter where a blank was
-        (90, 1, 136, 108, 3, 13, 21, 4),
+        (90, 1, 136, 108, 3, 13, Some((21, 4))),
         // a blank with a date
-        (91, 1, 41, 29, 3, 13, 22, 4),
+        (91, 1, 41, 29, 3, 13, Some((22, 4))),
         // a blank with a label
-        (119, 1, 129, 245, 3, 13, 22, 4),
+        (119, 1, 129, 245, 3, 13, Some((22, 4))),
         // a known letter after a blank
-        (120, b'E', 29, 101, 3, 13, 22, 5),
+        (120, b'E', 29, 101, 3, 13, Some((22, 5))),
         // the same at the end of the block
-        (480, b'E', 136, 200, 3, 13, 22, 17),
+        (480, b'E', 136, 200, 3, 13, Some((22, 17))),
         // the last byte of the last entry
-        (509, 1, 64, 213, 3, 13, 22, 17),
+        (509, 1, 64, 213, 3, 13, Some((22, 17))),
         // a date of any size
-        (1, 255, 233, 44, 3, 14, 0, 0),
+        (1, 255, 233, 44, 3, 14, None),
         // an operator of any size
-        (5, 255, 156, 34, 3, 14, 0, 0),
+        (5, 255, 156, 34, 3, 14, None),
     ];
 
-    // The start of a long file of sample blocks, and what must be read: events, blanks and the number of the refusal.
-    const LENGTHS: [(usize, usize, usize, u8); 10] = [
-        (0, 0, 0, 0),
-        (1, 0, 0, 19),
-        (511, 0, 0, 19),
-        (512, 3, 14, 0),
-        (513, 0, 0, 19),
-        (1024, 6, 28, 0),
-        (65535, 0, 0, 19),
-        (65536, 384, 1792, 0),
-        (65537, 0, 0, 19),
-        (66048, 0, 0, 19),
+    // The start of a long file of sample blocks, and what must be read: events, blanks and the number of the refusal, if
+    // there is one.
+    const LENGTHS: [(usize, usize, usize, Option<u8>); 10] = [
+        (0, 0, 0, None),
+        (1, 0, 0, Some(19)),
+        (511, 0, 0, Some(19)),
+        (512, 3, 14, None),
+        (513, 0, 0, Some(19)),
+        (1024, 6, 28, None),
+        (65535, 0, 0, Some(19)),
+        (65536, 384, 1792, None),
+        (65537, 0, 0, Some(19)),
+        (66048, 0, 0, Some(19)),
     ];
-
-    // A tally with one more refusal.
-    fn with_fault(tally: Tally, fault: Fault) -> Tally {
-        Tally {
-            events: tally.events,
-            blanks: tally.blanks,
-            refusals: tally.refusals.saturating_add(1),
-            number: fault.refusal.number(),
-            block: fault.block,
-            entry: fault.entry,
-        }
-    }
 
     // The tally of a file.
     fn tally_of(bytes: &[u8]) -> Tally {
-        let mut tally = NOTHING;
-        let mut reader = match Reader::open(bytes) {
+        let mut tally = Tally::default();
+        let reader = match Reader::open(bytes) {
             Ok(reader) => reader,
-            Err(fault) => return with_fault(tally, fault),
+            Err(fault) => return tally.with_fault(fault),
         };
-        loop {
-            match reader.next_entry() {
-                Ok(Step::End) => return tally,
-                Ok(Step::Entry { told, .. }) => match told {
-                    Entry::Event(_) => tally.events = tally.events.saturating_add(1),
-                    Entry::Blank => tally.blanks = tally.blanks.saturating_add(1),
-                },
-                Err(fault) => tally = with_fault(tally, fault),
+        for entry in reader {
+            match entry.map(|entry| entry.event) {
+                Ok(Some(_)) => tally.events = tally.events.saturating_add(1),
+                Ok(None) => tally.blanks = tally.blanks.saturating_add(1),
+                Err(fault) => tally = tally.with_fault(fault),
             }
         }
+        tally
     }
 
     // The three events and fourteen blanks, with a byte put at an offset and a check.
@@ -152,18 +158,31 @@ L\x01\x33\xc6\x3f\x00\x00\x00\x00\x00\x00\x00\x00\x00three           ";
 
     // Each damaged entry is refused by its number, and the others are read.
     fn damaged_entries(rt: &impl Abort) {
-        for (offset, byte, high, low, events, blanks, number, entry) in CASES {
-            let refusals = if number == 0 { 0 } else { 1 };
+        for (offset, byte, high, low, events, blanks, refused) in CASES {
             let expected = Tally {
                 events,
                 blanks,
-                refusals,
-                number,
-                block: refusals,
-                entry,
+                refusals: usize::from(refused.is_some()),
+                last: refused.map(|(number, entry)| Noted {
+                    number,
+                    block: 1,
+                    entry,
+                }),
             };
             assert_eq!(rt; tally_of(&sample(offset, byte, high, low)), expected);
         }
+    }
+
+    // A change of some bits of one byte is found by the check.
+    fn changed_byte(rt: &impl Abort, block: &mut [u8; 512], offset: usize)
+        requires { offset < 512 }
+    {
+        let byte = block[offset];
+        for bits in [1, 16, 128, 255] {
+            block[offset] = byte ^ bits;
+            assert!(rt; check_block(block).is_err());
+        }
+        block[offset] = byte;
     }
 
     // A change of any one byte is found by the check.
@@ -171,20 +190,15 @@ L\x01\x33\xc6\x3f\x00\x00\x00\x00\x00\x00\x00\x00\x00three           ";
         let mut block = sample(0, b'E', 64, 212);
         assert!(rt; check_block(&block).is_ok());
         for offset in 0..512 {
-            let byte = block[offset];
-            for bit in [1, 16, 128, 255] {
-                block[offset] = byte ^ bit;
-                assert!(rt; check_block(&block).is_err());
-            }
-            block[offset] = byte;
+            changed_byte(rt, &mut block, offset);
         }
         assert!(rt; check_block(&block).is_ok());
     }
 
     // Sample blocks, one after another.
     fn repeat(block: &[u8; 512], file: &mut [u8]) {
-        for (place, byte) in file.iter_mut().enumerate() {
-            *byte = block[place % 512];
+        for part in file.chunks_exact_mut(512) {
+            part.copy_from_slice(block);
         }
     }
 
@@ -192,15 +206,17 @@ L\x01\x33\xc6\x3f\x00\x00\x00\x00\x00\x00\x00\x00\x00three           ";
     fn long_files(rt: &impl Abort) {
         let mut file = [0; 66048];
         repeat(&sample(0, b'E', 64, 212), &mut file);
-        for (length, events, blanks, number) in LENGTHS {
+        for (length, events, blanks, refused) in LENGTHS {
             assert!(rt; length <= file.len());
             let expected = Tally {
                 events,
                 blanks,
-                refusals: if number == 0 { 0 } else { 1 },
-                number,
-                block: 0,
-                entry: 0,
+                refusals: usize::from(refused.is_some()),
+                last: refused.map(|number| Noted {
+                    number,
+                    block: 0,
+                    entry: 0,
+                }),
             };
             assert_eq!(rt; tally_of(&file[0..length]), expected);
         }
@@ -209,9 +225,11 @@ L\x01\x33\xc6\x3f\x00\x00\x00\x00\x00\x00\x00\x00\x00three           ";
             events: 381,
             blanks: 1778,
             refusals: 1,
-            number: 20,
-            block: 128,
-            entry: 0,
+            last: Some(Noted {
+                number: 20,
+                block: 128,
+                entry: 0,
+            }),
         };
         assert_eq!(rt; tally_of(&file[0..65536]), last_block);
         file[1023] ^= 1;
@@ -219,9 +237,11 @@ L\x01\x33\xc6\x3f\x00\x00\x00\x00\x00\x00\x00\x00\x00three           ";
             events: 3,
             blanks: 14,
             refusals: 1,
-            number: 20,
-            block: 2,
-            entry: 0,
+            last: Some(Noted {
+                number: 20,
+                block: 2,
+                entry: 0,
+            }),
         };
         assert_eq!(rt; tally_of(&file[0..65536]), second_block);
     }

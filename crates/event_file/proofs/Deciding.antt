@@ -1,5 +1,5 @@
 -- The three conditions of an entry in their order, and what their answer says of each.
-use Rattle.std.proofs.Common.{◌≡◌, ℕ, Bool, true, false, [], ◌∷◌, Ok, Result, refl, ap, ◌∙◌, arith}
+use Rattle.std.proofs.Common.{◌≡◌, ℕ, Bool, true, false, [], ◌∷◌, Ok, Result, refl, arith}
 use Rattle.refusal.specs.declared.Refusal.{Refusal}
 use Rattle.refusal.specs.declared.Refusal.TheVariants.{UnknownLetter, BlankRuleBroken, BadEntryContent}
 use Rattle.refusal.specs.Checks.{first, unless, ◌⇒◌}
@@ -7,9 +7,6 @@ use Rattle.event_file.specs.Entries.{Told}
 
 abbrev pub decide : Bool → Bool → Bool → Told → Result Told Refusal
 decide u b k t = unless (first ((u ⇒ UnknownLetter) ∷ (b ⇒ BlankRuleBroken) ∷ (k ⇒ BadEntryContent) ∷ [])) t
-
-pub decided_ok : (u b k : Bool) (t : Told) → u ≡ false → b ≡ false → k ≡ false → decide u b k t ≡ Ok t
-decided_ok u b k t p q r = ap (λ x. decide x b k t) p ∙ ap (λ x. decide false x k t) q ∙ ap (λ x. decide false false x t) r
 
 pub record AllPassed (u b k : Bool) (t s : Told) : Type 0 where
   pub letter_known : u ≡ false

@@ -3,7 +3,8 @@ use Rattle.std.proofs.Common.{◌≡◌, ℕ, zero, suc, ◌+◌, ◌*◌, ◌/�
 use Rattle.std.proofs.lemmas.List.{drop-drop, drop_more, get_or-drop, length-drop}
 use Rattle.std.proofs.ByRecursion.{All-drop}
 use Rattle.std.proofs.lemmas.Bool.{and_parts, eqb-true, ltb-false, not-false, or_cases, or_parts}
-use Rattle.event_file.specs.Bytes.{Bytes, each}
+use Rattle.event_file.specs.Bytes.{Bytes}
+use Rattle.std.specs.List.{list_all}
 use Rattle.event_file.specs.Format.{Shown, Within, entry_bytes, four_bytes, label_stands, laid, printable}
 use Rattle.event_file.specs.Entries.{bad_content, blank, breaks_blank_rule, event, event_in, event_letter, event_of, filled_in_vain, form_in, is_blank, label_in, letter_in, most_form, number_at, told, unknown_letter}
 use Rattle.event_file.specs.Laws.{OnlyItsBytes}
@@ -142,7 +143,7 @@ good_content bs h =
 -- a label has sixteen bytes, so an entry with a good label has thirty
 pub length_from_label : (bs : List ℕ) → label_stands (label_in bs) ≡ true → length bs ≡ 30
 length_from_label bs h =
-    omega (arith, eqb-true (length (label_in bs)) 16 (and_parts (eqb (length (label_in bs)) 16) (each printable (label_in bs)) h).0, length-drop 14 bs)
+    omega (arith, eqb-true (length (label_in bs)) 16 (and_parts (eqb (length (label_in bs)) 16) (list_all printable (label_in bs)) h).0, length-drop 14 bs)
 
 pub only_its_bytes : OnlyItsBytes
 only_its_bytes after bs e k r =

@@ -1,12 +1,10 @@
 pub mod Remainders
-pub mod Each
-pub mod Blanks
+pub mod Parts
 pub mod Steps
 pub mod Deciding
-pub mod ReadingBack
 pub mod Exact
 pub mod Changes
 pub mod SameEntries
 pub mod Labels
-pub mod Cuts
+pub mod Letters
 pub mod Printing

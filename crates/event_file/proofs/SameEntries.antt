@@ -4,7 +4,8 @@ use Rattle.refusal.specs.declared.Refusal.{Refusal}
 use Rattle.std.proofs.ByRecursion.{All-drop, All-take}
 use Rattle.std.proofs.lemmas.List.{ext_get_or, get_or-drop, get_or-take, length-take-le}
 use Rattle.std.proofs.lemmas.Bool.{and_parts, cases_eq, cases_lt, eqb-true, not-false}
-use Rattle.event_file.specs.Bytes.{Bytes, each}
+use Rattle.event_file.specs.Bytes.{Bytes}
+use Rattle.std.specs.List.{list_all}
 use Rattle.event_file.specs.Blocks.{check_of, entry_of, written_check}
 use Rattle.event_file.specs.Format.{Shown}
 use Rattle.event_file.specs.Entries.{Told, event, blank, bad_content, breaks_blank_rule, event_in, event_letter, is_blank, is_zero, letter_in, told, unknown_letter}
@@ -14,10 +15,10 @@ use Rattle.event_file.proofs.Changes.{carried, whole}
 use Rattle.event_file.proofs.Deciding.{AllPassed, passed_all}
 use Rattle.event_file.proofs.Exact.{byte_at, only_its_bytes}
 
-zeros : (bs : List ℕ) → each is_zero bs ≡ true → bs ≡ replicate (length bs) 0
+zeros : (bs : List ℕ) → list_all is_zero bs ≡ true → bs ≡ replicate (length bs) 0
 zeros [] h = refl
 zeros (b ∷ bs) h =
-    let both = and_parts (eqb b 0) (each is_zero bs) h in
+    let both = and_parts (eqb b 0) (list_all is_zero bs) h in
     let first = eqb-true b 0 both.0 in
     let rest = zeros bs both.1 in
     cc
@@ -25,7 +26,7 @@ zeros (b ∷ bs) h =
 -- a blank is thirty zero bytes
 thirty_zeros : (bs : List ℕ) → is_blank bs ≡ true → bs ≡ replicate 30 0
 thirty_zeros bs h =
-    let both = and_parts (eqb (length bs) 30) (each is_zero bs) h in
+    let both = and_parts (eqb (length bs) 30) (list_all is_zero bs) h in
     zeros bs both.1 ∙ ap (λ n. replicate n 0) (eqb-true (length bs) 30 both.0)
 
 blank_read : (z known dirty after bad : Bool) (e : Shown) → AllPassed (not (z || known)) (cond z dirty after) (not z && bad) (cond z blank (event e)) blank → dirty ≡ false

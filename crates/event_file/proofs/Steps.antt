@@ -1,12 +1,10 @@
 -- A step of the reading, at the end of the file and before it.
-use Rattle.std.proofs.Common.{◌≡◌, ℕ, ◌+◌, ◌/◌, ◌%◌, ◌<◌, ◌≤◌, List, Ok, Err, Result, sym, ap, ◌∙◌, arith}
+use Rattle.std.proofs.Common.{◌≡◌, ℕ, ◌+◌, ◌/◌, ◌%◌, ◌<◌, ◌≤◌, List, Ok, Err, Result, sym, ap, ◌∙◌}
 use Rattle.std.proofs.lemmas.Bool.{le-leb, lt-leb, cond-true, cond-false}
 use Rattle.refusal.specs.declared.Refusal.{Refusal}
 use Rattle.event_file.specs.Blocks.{block_of}
-use Rattle.event_file.specs.Reading.{Forward, Outcome, end, check_at, checked, entry_told, entry_step, placed, places, refused_block, shown_step, step_after, step_at}
+use Rattle.event_file.specs.Reading.{Outcome, end, check_at, checked, entry_told, entry_step, placed, places, refused_block, step_after, step_at}
 use Rattle.event_file.specs.declared.fault.Fault.{Fault}
-use Rattle.event_file.specs.declared.reader.Step.{Step}
-use Rattle.event_file.specs.declared.reader.Step.TheVariants as step
 
 pub ended_at : (bs : List ℕ) (p : ℕ) → places bs ≤ p → Ok end ≡ step_at bs p
 unfolding step_at
@@ -41,8 +39,3 @@ pub went_after : (bs : List ℕ) (p : ℕ) (b : List ℕ) (u : Unit {0}) → p <
 unfolding step_after
 went_after bs p b u before is same =
     decided bs p b (Ok u) (λ _. places bs) (p + 1) is same ∙ sym (cond-false _ _ _ (lt-leb (places bs) p before))
-
-pub forward_by : (bs : List ℕ) (p : ℕ) (r : Result Step Fault) → p < places bs → Forward p (p + 1) (places bs) (shown_step r)
-forward_by bs p (Ok (step.Entry b n t)) before = (omega arith, omega (arith, before))
-forward_by bs p (Ok step.End) before = tt
-forward_by bs p (Err f) before = (omega arith, omega (arith, before))

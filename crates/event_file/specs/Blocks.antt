@@ -2,6 +2,7 @@
 --   file_blocks  how many blocks a file of a length has, or why it has none
 --   check_of     the check that bytes call for
 --   passes       whether a block is whole and carries the check that its bytes call for
+--   part_of      a part of a list that is cut into parts of one size, counted from 0
 --   block_of     a block of a file, counted from 0
 --   entry_of     an entry of a block, counted from 0
 use Rattle.std.specs.Prelude.{ℕ, ◌+◌, ◌*◌, ◌/◌, ◌%◌, Bool, not, ◌&&◌, ◌||◌, List, [], ◌∷◌, length, take, drop, Result, ◌==◌, nat_lt, slice_index}
@@ -29,8 +30,11 @@ passes b = length b == 512 && check_of (take 510 b) == written_check b
 abbrev pub block_check : List ℕ → Result Unit Refusal
 block_check b = unless (first ((not (passes b) ⇒ BadBlockCheck) ∷ [])) tt
 
+abbrev pub part_of : ℕ → List ℕ → ℕ → List ℕ
+part_of size bs n = take size (drop (n * size) bs)
+
 abbrev pub block_of : List ℕ → ℕ → List ℕ
-block_of bs n = take 512 (drop (n * 512) bs)
+block_of bs n = part_of 512 bs n
 
 abbrev pub entry_of : List ℕ → ℕ → List ℕ
-entry_of b n = take 30 (drop (n * 30) b)
+entry_of b n = part_of 30 b n

@@ -2,17 +2,17 @@
 --   Told      an event or a blank
 --   is_blank  whether an entry is a blank: thirty bytes, all zero
 --   told      what an entry tells, or the first reason why it tells nothing
---   shown     an entry of the program as a plain value
-use Rattle.std.specs.Prelude.{◌≡◌, ℕ, ◌+◌, ◌*◌, Bool, cond, not, ◌&&◌, ◌||◌, List, [], ◌∷◌, length, drop, Ok, Err, Option, Result, ◌==◌, nat_lt, slice_index}
+--   shown     what the program says of an entry, as a plain value
+use Rattle.std.specs.Prelude.{◌≡◌, ℕ, ◌+◌, ◌*◌, Bool, false, cond, not, ◌&&◌, ◌||◌, List, [], ◌∷◌, length, drop, Some, None, Ok, Err, Option, Result, MatchResult, ◌==◌, nat_lt, slice_index}
 use Rattle.refusal.specs.declared.Refusal.{Refusal}
 use Rattle.refusal.specs.declared.Refusal.TheVariants.{UnknownLetter, BlankRuleBroken, BadEntryContent}
 use Rattle.refusal.specs.Checks.{first, unless, ◌⇒◌}
-use Rattle.event_file.specs.Bytes.{each}
+use Rattle.std.specs.List.{list_all}
 use Rattle.event_file.specs.Format.{Shown, commitment, raise, opening, cabling, launch, label_stands}
 use Rattle.event_file.specs.declared.event.Event.{Event}
 use Rattle.event_file.specs.declared.event.Event.TheVariants.{Commitment, Raise, Opening, Cabling, Launch}
-use Rattle.event_file.specs.declared.event.Entry.{Entry}
-use Rattle.event_file.specs.declared.event.Entry.TheVariants as entry
+use Rattle.event_file.specs.declared.entry.Letter.{Letter}
+use Rattle.event_file.specs.declared.entry.Letter.TheVariants as letter
 use Rattle.event_file.specs.declared.entry.Fields.{Fields}
 
 pub data Told : Type 0 where
@@ -41,7 +41,7 @@ abbrev pub is_zero : ℕ → Bool
 is_zero b = b == 0
 
 abbrev pub is_blank : List ℕ → Bool
-is_blank bs = length bs == 30 && each is_zero bs
+is_blank bs = length bs == 30 && list_all is_zero bs
 
 -- The letter is that of an event, or the byte 0 of a blank.
 abbrev pub unknown_letter : List ℕ → Bool
@@ -100,19 +100,32 @@ shown_event (Opening d n a l) = opening d n a l.now
 shown_event (Cabling d n a t l) = cabling d n a t l.now
 shown_event (Launch d l) = launch d l.now
 
-abbrev pub shown : Entry → Told
-shown (entry.Event e) = event (shown_event e)
-shown entry.Blank = blank
+-- No event is a blank.
+abbrev pub shown : Option Event → Told
+shown (Some e) = event (shown_event e)
+shown None = blank
 
-abbrev pub shown_answer : Result Entry Refusal → Result Told Refusal
+abbrev pub shown_answer : Result (Option Event) Refusal → Result Told Refusal
 shown_answer (Ok e) = Ok (shown e)
 shown_answer (Err x) = Err x
 
--- Fields that are those of an entry, with a label.
-pub record FieldsOf (bs l : List ℕ) (f : Fields) : Type 0 where
-  pub letter_is : f.letter ≡ letter_in bs
+-- The byte of a letter.
+abbrev pub letter_byte : Letter → ℕ
+letter_byte letter.Commitment = 69
+letter_byte letter.Raise = 65
+letter_byte letter.Opening = 80
+letter_byte letter.Cabling = 83
+letter_byte letter.Launch = 76
+
+-- The letter of a byte, or the refusal of a byte that is none.
+abbrev pub LetterOf : ℕ → Result Letter Refusal → Type 0
+LetterOf c r = MatchResult r (λ l. letter_byte l ≡ c) (λ x. (x ≡ UnknownLetter) × (event_letter c ≡ false))
+
+-- Fields that are those of an entry.
+pub record FieldsOf (bs : List ℕ) (f : Fields) : Type 0 where
+  pub letter_is : letter_byte f.letter ≡ letter_in bs
   pub date_is : f.date ≡ number_at bs 1
   pub number_is : f.number ≡ number_at bs 5
   pub amount_is : f.amount ≡ number_at bs 9
   pub form_is : f.form ≡ form_in bs
-  pub label_is : f.label.now ≡ l
+  pub label_is : f.label.now ≡ label_in bs

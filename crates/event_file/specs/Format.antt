@@ -5,7 +5,7 @@
 --   Writes        bytes that write an event: reading an event is this relation, from the bytes to the event
 --   label_stands  whether bytes can be a label: sixteen, each from 32 to 126
 use Rattle.std.specs.Prelude.{◌≡◌, ℕ, ◌/◌, ◌%◌, ◌^◌, ◌<◌, Bool, true, cond, ◌&&◌, List, [], ◌∷◌, ◌++◌, length, ◌==◌, nat_le}
-use Rattle.event_file.specs.Bytes.{each}
+use Rattle.std.specs.List.{list_all}
 
 pub data Shown : Type 0 where
   -- date, operator, rate, label
@@ -31,7 +31,7 @@ abbrev pub printable : ℕ → Bool
 printable b = nat_le 32 b && nat_le b 126
 
 abbrev pub label_stands : List ℕ → Bool
-label_stands l = length l == 16 && each printable l
+label_stands l = length l == 16 && list_all printable l
 
 -- Every number has 32 bits, and the label is one that can stand.
 abbrev pub Within : Shown → Type 0

@@ -29,30 +29,25 @@ pub const fn blocks_in(length: usize) -> Result<usize, Refusal>
 }
 
 // The remainder of a number with one more byte at its end, from the number's own remainder.
-const fn with_byte(rest: u32, byte: u8) -> u32
-    requires { rest < 65521 }
+const fn with_byte(rest: u16, byte: u8) -> u16
     ensures value { result ≡ (rest * 256 + byte) % 65521 }
 {
-    (rest * 256 + byte as u32) % MODULUS
+    ((rest as u32 * 256 + byte as u32) % MODULUS) as u16
 }
 
 // The bytes as one number to base 256, first byte highest, modulo 65,521.
-pub fn check_of(bytes: &[u8]) -> u32
+pub fn check_of(bytes: &[u8]) -> u16
     ensures value { result ≡ check_of bytes.now }
 {
-    let mut rest = 0;
-    for byte in bytes {
-        rest = with_byte(rest, *byte);
-    }
-    rest
+    bytes.iter().fold(0, |rest, byte| with_byte(rest, *byte))
 }
 
 // The check that a block carries, high byte first.
-fn written_check(block: &[u8]) -> u32
+fn written_check(block: &[u8]) -> u16
     requires { length block.now ≡ 512 }
     ensures value { result ≡ written_check block.now }
 {
-    u32::from(u16::from_be_bytes([block[CHECKED_BYTES], block[CHECKED_BYTES + 1]]))
+    u16::from_be_bytes([block[CHECKED_BYTES], block[CHECKED_BYTES + 1]])
 }
 
 // Whether a block is whole and carries the check of its first 510 bytes.

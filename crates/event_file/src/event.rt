@@ -55,9 +55,3 @@ impl<'a> Event<'a> {
         }
     }
 }
-
-#[derive(Clone, Copy)]
-pub enum Entry<'a> {
-    Event(Event<'a>),
-    Blank,
-}

@@ -1,10 +1,41 @@
 // Why something in a file is refused, and where it stands.
+ghost use Rattle.std.specs.Prelude.{◌≡◌};
+ghost use Rattle.event_file.specs.Places.{block_number, entry_number};
+
 use refusal::Refusal;
 
-// Blocks and entries count from 1. The entry is 0 if a whole block is refused, and both are 0 if the file is.
+// What is refused: the whole file, a whole block, or an entry of a block. Blocks and entries count from 1.
+#[derive(Clone, Copy, PartialEq, Eq, Debug)]
+pub enum Place {
+    File,
+    Block(usize),
+    Entry { block: usize, entry: usize },
+}
+
+impl Place {
+    // The number of the block, or 0 for a whole file.
+    pub const fn block(self) -> usize
+        ensures value { result ≡ block_number self }
+    {
+        match self {
+            Place::File => 0,
+            Place::Block(block) | Place::Entry { block, .. } => block,
+        }
+    }
+
+    // The number of the entry in its block, or 0 for a whole file or block.
+    pub const fn entry(self) -> usize
+        ensures value { result ≡ entry_number self }
+    {
+        match self {
+            Place::File | Place::Block(_) => 0,
+            Place::Entry { entry, .. } => entry,
+        }
+    }
+}
+
 #[derive(Clone, Copy, PartialEq, Eq, Debug)]
 pub struct Fault {
     pub refusal: Refusal,
-    pub block: usize,
-    pub entry: usize,
+    pub place: Place,
 }

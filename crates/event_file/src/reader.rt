@@ -1,14 +1,14 @@
 // A file read entry by entry, each block checked before its entries.
-ghost use Rattle.std.specs.Prelude.{◌≡◌, ◌+◌, ◌*◌, ◌^◌, ◌<◌, ◌≤◌, length};
-ghost use Rattle.event_file.specs.Blocks.{block_of, entry_of};
+ghost use Rattle.std.specs.Prelude.{◌≡◌, ◌+◌, ◌*◌, ◌/◌, ◌^◌, ◌<◌, length};
+ghost use Rattle.event_file.specs.Blocks.{part_of};
 ghost use Rattle.event_file.specs.Entries.{shown_answer};
-ghost use Rattle.event_file.specs.Reading.{Forward, LabelIs, Opened, blank_before, check_at, entry_told, label_at, placed, places, shown_step, step_after, step_at};
+ghost use Rattle.event_file.specs.Reading.{Forward, Gives, LabelIs, Opened, blank_before, check_at, entry_told, label_at, left, placed, places, shown_entry, shown_step, step_after, step_at};
 ghost use Rattle.event_file.specs.Laws.{SameEntries};
 
 use crate::block::{BLOCK_BYTES, BLOCK_ENTRIES, blocks_in, check_block};
 use crate::entry::{ENTRY_BYTES, is_blank, read_entry};
-use crate::event::Entry;
-use crate::fault::Fault;
+use crate::event::Event;
+use crate::fault::{Fault, Place};
 use refusal::Refusal;
 
 // The bytes of a file and how many of its entries are passed.
@@ -18,55 +18,39 @@ pub struct Reader<'a> {
     position: usize,
 }
 
-// What a step gives: an entry with its block and its place in the block, both from 1, or the end of the file.
+// An entry with its block and its place in the block, both from 1. A blank tells of no event.
 #[derive(Clone, Copy)]
-pub enum Step<'a> {
-    Entry {
-        block: usize,
-        entry: usize,
-        told: Entry<'a>,
-    },
-    End,
+pub struct Entry<'a> {
+    pub block: usize,
+    pub entry: usize,
+    pub event: Option<Event<'a>>,
 }
 
-// A block of a file, counted from 0.
-fn block_at(bytes: &[u8], number: usize) -> &[u8]
-    requires { number * 512 + 512 ≤ length bytes.now }
-    ensures value { result.now ≡ block_of bytes.now number }
-    ensures whole { length result.now ≡ 512 }
+// A part of some bytes that are cut into parts of one size, counted from 0.
+fn part_at<const SIZE: usize>(bytes: &[u8], number: usize) -> &[u8; SIZE]
+    requires { (0 < SIZE) × (number < length bytes.now / SIZE) }
+    ensures value { result.now ≡ part_of SIZE bytes.now number }
 {
-    let start = number * BLOCK_BYTES;
-    &bytes[start..start + BLOCK_BYTES]
-}
-
-// An entry of a block, counted from 0.
-fn entry_at(block: &[u8], number: usize) -> &[u8]
-    requires { number * 30 + 30 ≤ length block.now }
-    ensures value { result.now ≡ entry_of block.now number }
-{
-    let start = number * ENTRY_BYTES;
-    &block[start..start + ENTRY_BYTES]
+    &bytes.as_chunks().0[number]
 }
 
 // Whether a blank stands before an entry in its block.
-fn blank_before(block: &[u8], number: usize) -> bool
-    requires { number * 30 ≤ length block.now }
-    ensures value { result ≡ blank_before block.now number }
+fn blank_before(block: &[u8; BLOCK_BYTES], place: usize) -> bool
+    requires { place < 17 }
+    ensures value { result ≡ blank_before block.now place }
 {
-    for earlier in 0..number {
-        if is_blank(entry_at(block, earlier)) {
-            return true;
-        }
-    }
-    false
+    (0..place).any(|earlier| is_blank(part_at::<ENTRY_BYTES>(block, earlier)))
 }
 
 // What an entry of a block tells.
-fn told_in(block: &[u8], number: usize) -> Result<Entry<'_>, Refusal>
-    requires { number * 30 + 30 ≤ length block.now }
-    ensures answer { shown_answer result ≡ entry_told block.now number }
+fn told_in(block: &[u8; BLOCK_BYTES], place: usize) -> Result<Option<Event<'_>>, Refusal>
+    requires { place < 17 }
+    ensures answer { shown_answer result ≡ entry_told block.now place }
 {
-    read_entry(entry_at(block, number), blank_before(block, number))
+    read_entry(
+        part_at::<ENTRY_BYTES>(block, place),
+        blank_before(block, place),
+    )
 }
 
 // The check of a block, made before its first entry and not again.
@@ -81,22 +65,24 @@ fn check_at(block: &[u8], place: usize) -> Result<(), Refusal>
 }
 
 // What an entry of a block tells, with its place in the file.
-fn step_in(block: &[u8], number: usize, place: usize) -> Result<Step<'_>, Fault>
-    requires { (place * 30 + 30 ≤ length block.now) × (number < 2 ^ 60) }
-    ensures answer { shown_step result ≡ placed (number + 1) (place + 1) (entry_told block.now place) }
+fn entry_in(block: &[u8; BLOCK_BYTES], number: usize, place: usize) -> Result<Entry<'_>, Fault>
+    requires { (place < 17) × (number < 2 ^ 60) }
+    ensures answer { shown_entry result ≡ placed (number + 1) (place + 1) (entry_told block.now place) }
 {
-    match told_in(block, place) {
-        Ok(told) => Ok(Step::Entry {
-            block: number + 1,
-            entry: place + 1,
-            told,
-        }),
-        Err(refusal) => Err(Fault {
+    let (block_number, entry) = (number + 1, place + 1);
+    told_in(block, place)
+        .map(|event| Entry {
+            block: block_number,
+            entry,
+            event,
+        })
+        .map_err(|refusal| Fault {
             refusal,
-            block: number + 1,
-            entry: place + 1,
-        }),
-    }
+            place: Place::Entry {
+                block: block_number,
+                entry,
+            },
+        })
 }
 
 impl<'a> Reader<'a> {
@@ -104,18 +90,16 @@ impl<'a> Reader<'a> {
     pub fn open(bytes: &'a [u8]) -> Result<Reader<'a>, Fault>
         ensures answer { Opened bytes.now result }
     {
-        match blocks_in(bytes.len()) {
-            Ok(_) => Ok(Reader { bytes, position: 0 }),
-            Err(refusal) => Err(Fault {
+        blocks_in(bytes.len())
+            .map(|_| Reader { bytes, position: 0 })
+            .map_err(|refusal| Fault {
                 refusal,
-                block: 0,
-                entry: 0,
-            }),
-        }
+                place: Place::File,
+            })
     }
 
-    // The next entry. A block that fails its check ends the reading.
-    pub fn next_entry(&mut self) -> Result<Step<'a>, Fault>
+    // The next entry, if there is one. A block that fails its check ends the reading.
+    pub fn next_entry(&mut self) -> Result<Option<Entry<'a>>, Fault>
         ensures answer { shown_step result ≡ step_at self.old.bytes.now self.old.position }
         ensures position { self.new.position ≡ step_after self.old.bytes.now self.old.position }
         ensures forward { Forward self.old.position self.new.position (places self.old.bytes.now) (shown_step result) }
@@ -125,19 +109,31 @@ impl<'a> Reader<'a> {
     {
         let end = self.bytes.len() / BLOCK_BYTES * BLOCK_ENTRIES;
         if self.position >= end {
-            return Ok(Step::End);
+            return Ok(None);
         }
         let (number, place) = (self.position / BLOCK_ENTRIES, self.position % BLOCK_ENTRIES);
-        let block = block_at(self.bytes, number);
+        let block = part_at::<BLOCK_BYTES>(self.bytes, number);
         if let Err(refusal) = check_at(block, place) {
             self.position = end;
             return Err(Fault {
                 refusal,
-                block: number + 1,
-                entry: 0,
+                place: Place::Block(number + 1),
             });
         }
         self.position += 1;
-        step_in(block, number, place)
+        entry_in(block, number, place).map(Some)
+    }
+}
+
+// The entries and the refusals that are left, one after another.
+impl<'a> Iterator for Reader<'a> {
+    type Item = Result<Entry<'a>, Fault>;
+
+    ghost next_gives = { Gives };
+
+    ghost remaining = { left };
+
+    fn next(&mut self) -> Option<Result<Entry<'a>, Fault>> {
+        self.next_entry().transpose()
     }
 }

@@ -3,54 +3,33 @@
 
 mod text;
 
-ghost use Rattle.std.specs.Prelude.{◌≤◌, length, IfOk};
-
 use event_file::block::MOST_BYTES;
-use event_file::reader::{Reader, Step};
+use event_file::reader::Reader;
 use std::io;
 use std::io::Read;
-use text::{entry_line, fault_line};
+use text::Line;
 
-// One byte more than the longest file: an input that fills it is too long.
-const ROOM: usize = MOST_BYTES + 1;
-
-// Reads until the input ends or the buffer is full, and says how many bytes came.
-fn fill(input: &mut impl Read, buffer: &mut [u8]) -> io::Result<usize>
-    ensures within { IfOk result (λ n. n ≤ length buffer.new) }
-{
-    let mut filled = 0;
-    for _ in 0..buffer.len() {
-        let more = input.read(&mut buffer[filled..])?;
-        if more == 0 {
-            break;
-        }
-        filled += more;
-    }
-    Ok(filled)
-}
+// One byte more than the longest file: an input of so many bytes is too long, however it goes on.
+const ROOM: u64 = MOST_BYTES as u64 + 1;
 
 // The lines of a file, to its end or the block that fails its check.
 fn list(rt: &HostRuntime, bytes: &[u8]) -> io::Result<()> {
-    let heap = rt.alloc();
-    let mut reader = match Reader::open(bytes) {
+    let reader = match Reader::open(bytes) {
         Ok(reader) => reader,
         Err(fault) => {
-            let line = fault_line(heap, fault)?;
+            let line = Line(Err(fault));
             return println!(rt; "{line}");
         }
     };
-    loop {
-        let line = match reader.next_entry() {
-            Ok(Step::End) => return Ok(()),
-            Ok(Step::Entry { block, entry, told }) => entry_line(heap, block, entry, told)?,
-            Err(fault) => fault_line(heap, fault)?,
-        };
+    for entry in reader {
+        let line = Line(entry);
         println!(rt; "{line}")?;
     }
+    Ok(())
 }
 
 fn main(rt: HostRuntime) -> io::Result<()> {
-    let mut buffer = [0; ROOM];
-    let length = fill(&mut rt.stdin(), &mut buffer)?;
-    list(&rt, &buffer[0..length])
+    let mut bytes = Vec::new(rt.alloc());
+    rt.stdin().take(ROOM).read_to_end(&mut bytes)?;
+    list(&rt, bytes.as_slice())
 }

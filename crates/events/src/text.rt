@@ -1,114 +1,137 @@
 // The lines of a listing.
-ghost use Rattle.std.specs.Prelude.{◌≡◌, true, IfOk, string_bytes};
-ghost use Rattle.event_file.specs.Format.{label_of, label_stands};
+ghost use Rattle.std.specs.Prelude.{◌≡◌, Some};
 ghost use Rattle.event_file.specs.Entries.{shown, shown_event};
-ghost use Rattle.events.specs.Lines.{entry_line, event_text, fault_line, form_text, place_text, told_stands};
+ghost use Rattle.events.specs.Lines.{date_of, form_of, letter_of, line_text, numbers_text, place_text, told_text};
 
-use event_file::event::{Entry, Event};
-use event_file::fault::Fault;
-use std::alloc::{AllocError, Global};
-use std::str::from_utf8;
+use event_file::event::Event;
+use event_file::fault::{Fault, Place};
+use event_file::label::printed;
+use event_file::reader::Entry;
+use std::fmt;
 
-// A label as text: its bytes print as they are.
-fn label_text(label: &[u8]) -> &str
-    ensures value { label_stands label.now ≡ true → result.now ≡ label.now }
+// The letter of an event.
+fn letter(event: Event<'_>) -> &'static str
+    ensures value { result.now ≡ letter_of (shown_event event.entry) }
 {
-    match from_utf8(label) {
-        Ok(text) => text,
-        Err(_) => "",
-    }
-}
-
-// The form of a cabling.
-const fn form_text(third_party: bool) -> &'static str
-    ensures value { result.now ≡ form_text third_party }
-{
-    if third_party { "1" } else { "0" }
-}
-
-// An event in words.
-fn event_text(heap: Global, event: Event<'_>) -> Result<String, AllocError>
-    ensures value { IfOk result (λ s. label_stands (label_of (shown_event event.entry)) ≡ true → string_bytes s ≡ event_text (shown_event event.entry)) }
-{
-    let label = label_text(event.label());
     match event {
-        Event::Commitment {
-            date,
-            operator,
-            rate,
-            ..
-        } => format!(in heap;
-            "E date {date} operator {operator} rate {rate} form 0 label \"{label}\""
-        ),
-        Event::Raise {
-            date,
-            operator,
-            rate,
-            ..
-        } => format!(in heap;
-            "A date {date} operator {operator} rate {rate} form 0 label \"{label}\""
-        ),
-        Event::Opening {
-            date,
-            object,
-            dwellings,
-            ..
-        } => format!(in heap;
-            "P date {date} object {object} dwellings {dwellings} form 0 label \"{label}\""
-        ),
-        Event::Cabling {
-            date,
-            object,
-            dwellings,
-            third_party,
-            ..
-        } => {
-            let form = form_text(third_party);
-            format!(in heap;
-                "S date {date} object {object} dwellings {dwellings} form {form} label \"{label}\""
-            )
-        }
-        Event::Launch { date, .. } => format!(in heap; "L date {date} form 0 label \"{label}\""),
+        Event::Commitment { .. } => "E",
+        Event::Raise { .. } => "A",
+        Event::Opening { .. } => "P",
+        Event::Cabling { .. } => "S",
+        Event::Launch { .. } => "L",
     }
 }
 
-// The line of an entry.
-pub fn entry_line(
-    heap: Global,
-    block: usize,
-    entry: usize,
-    told: Entry<'_>,
-) -> Result<String, AllocError>
-    ensures value { IfOk result (λ s. told_stands (shown told.entry) ≡ true → string_bytes s ≡ entry_line block entry (shown told.entry)) }
+// The date of an event.
+fn date(event: Event<'_>) -> u32
+    ensures value { result ≡ date_of (shown_event event.entry) }
 {
-    match told {
-        Entry::Event(event) => {
-            let text = event_text(heap, event)?;
-            format!(in heap; "block {block} entry {entry}: {text}")
+    match event {
+        Event::Commitment { date, .. }
+        | Event::Raise { date, .. }
+        | Event::Opening { date, .. }
+        | Event::Cabling { date, .. }
+        | Event::Launch { date, .. } => date,
+    }
+}
+
+// The form of an event: 1 for third-party cabling, else 0.
+fn form(event: Event<'_>) -> u8
+    ensures value { result ≡ form_of (shown_event event.entry) }
+{
+    match event {
+        Event::Cabling { third_party, .. } => u8::from(third_party),
+        _ => 0,
+    }
+}
+
+// The numbers of an event, with their names.
+#[derive(Clone, Copy)]
+struct Numbers<'a>(Event<'a>);
+
+impl<'a> fmt::Display for Numbers<'a> {
+    ghost output = { λ numbers. Some (numbers_text (shown_event numbers.0)) };
+
+    fn fmt<W: fmt::Write>(&self, f: &mut fmt::Formatter<W>) -> fmt::Result {
+        match self.0 {
+            Event::Commitment { operator, rate, .. } | Event::Raise { operator, rate, .. } => {
+                write!(f, " operator {operator} rate {rate}")
+            }
+            Event::Opening {
+                object,
+                dwellings,
+                ..
+            }
+            | Event::Cabling {
+                object,
+                dwellings,
+                ..
+            } => { write!(f, " object {object} dwellings {dwellings}") }
+            Event::Launch { .. } => Ok(()),
         }
-        Entry::Blank => format!(in heap; "block {block} entry {entry}: blank"),
+    }
+}
+
+// What an entry tells, in words.
+#[derive(Clone, Copy)]
+struct Words<'a>(Option<Event<'a>>);
+
+impl<'a> fmt::Display for Words<'a> {
+    ghost output = { λ words. Some (told_text (shown words.0)) };
+
+    fn fmt<W: fmt::Write>(&self, f: &mut fmt::Formatter<W>) -> fmt::Result {
+        let Some(event) = self.0 else {
+            return write!(f, "blank");
+        };
+        let letter = letter(event);
+        let date = date(event);
+        let numbers = Numbers(event);
+        let form = form(event);
+        let label = printed(event.label());
+        write!(
+            f,
+            "{letter} date {date}{numbers} form {form} label \"{label}\""
+        )
     }
 }
 
 // Where a refusal stands.
-fn place_text(heap: Global, block: usize, entry: usize) -> Result<String, AllocError>
-    ensures value { IfOk result (λ s. string_bytes s ≡ place_text block entry) }
-{
-    if block == 0 {
-        format!(in heap; "file")
-    } else if entry == 0 {
-        format!(in heap; "block {block}")
-    } else {
-        format!(in heap; "block {block} entry {entry}")
+#[derive(Clone, Copy)]
+struct Standing(Place);
+
+impl fmt::Display for Standing {
+    ghost output = { λ standing. Some (place_text standing.0) };
+
+    fn fmt<W: fmt::Write>(&self, f: &mut fmt::Formatter<W>) -> fmt::Result {
+        match self.0 {
+            Place::File => write!(f, "file"),
+            Place::Block(block) => write!(f, "block {block}"),
+            Place::Entry { block, entry } => write!(f, "block {block} entry {entry}"),
+        }
     }
 }
 
-// The line of a refusal.
-pub fn fault_line(heap: Global, fault: Fault) -> Result<String, AllocError>
-    ensures value { IfOk result (λ s. string_bytes s ≡ fault_line fault) }
-{
-    let place = place_text(heap, fault.block, fault.entry)?;
-    let number = fault.refusal.number();
-    let sentence = fault.refusal.sentence();
-    format!(in heap; "{place}: refused {number}, {sentence}")
+// The line of an entry or of a refusal.
+#[derive(Clone, Copy)]
+pub struct Line<'a>(pub Result<Entry<'a>, Fault>);
+
+impl<'a> fmt::Display for Line<'a> {
+    ghost output = { λ line. Some (line_text line.0) };
+
+    fn fmt<W: fmt::Write>(&self, f: &mut fmt::Formatter<W>) -> fmt::Result {
+        match self.0 {
+            Ok(told) => {
+                let block = told.block;
+                let entry = told.entry;
+                let words = Words(told.event);
+                write!(f, "block {block} entry {entry}: {words}")
+            }
+            Err(fault) => {
+                let place = Standing(fault.place);
+                let number = fault.refusal.number();
+                let sentence = fault.refusal.sentence();
+                write!(f, "{place}: refused {number}, {sentence}")
+            }
+        }
+    }
 }

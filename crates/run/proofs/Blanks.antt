@@ -1,34 +1,31 @@
--- A text without its end blanks, blank by blank.
-use Rattle.std.proofs.Common.{◌≡◌, ℕ, zero, suc, ◌<◌, Bool, true, false, cond, ◌&&◌, eqb, List, [], ◌∷◌, length, get_or, take, sym, refl, ap, ◌∙◌, arith}
-use Rattle.std.proofs.lemmas.Bool.{and_parts, cond-true, cond-false, eq-eqb, ne_eqb}
-use Rattle.event_file.specs.Bytes.{each}
-use Rattle.event_file.specs.Format.{printable}
+-- A text without its end blanks is what the library trims to.
+use Rattle.std.proofs.Common.{◌≡◌, ℕ, ◌-◌, false, List, [], ◌∷◌, ◌++◌, length, take, Some, None, sym, refl, ap, ◌∙◌, take-append-drop, arith}
+use Rattle.std.proofs.Math.Seq.{drop-length}
+use Rattle.std.proofs.lemmas.Bool.{cond-false, ne_eqb}
+use Rattle.std.proofs.lemmas.Str.Pattern.{drop_at_char, ends_char}
+use Rattle.std.specs.Str.Pattern.{CutsSuffixes, FindsCharSuffix, IsTrimEndMatches}
 use Rattle.run.specs.Reports.{before_rest, without_end_blanks}
 
--- the last of some first bytes is a blank, and goes
-pub last_goes : (xs : List ℕ) (n : ℕ) → n < length xs → get_or xs n 0 ≡ 32 → without_end_blanks (take n xs) ≡ without_end_blanks (take (suc n) xs)
-last_goes [] n in_it is = absurd (omega arith)
-last_goes (b ∷ bs) zero in_it is = sym (cond-true _ _ _ (eq-eqb b 32 is))
-last_goes (b ∷ bs) (suc n) in_it is = ap (before_rest b) (last_goes bs n (omega arith) is)
+-- a blank at the end goes
+blank_goes : (xs : List ℕ) → without_end_blanks (xs ++ 32 ∷ []) ≡ without_end_blanks xs
+blank_goes [] = refl
+blank_goes (b ∷ bs) = ap (before_rest b) (blank_goes bs)
 
--- the last of some first bytes is no blank, and all stay
-pub all_stay : (xs : List ℕ) (n : ℕ) → n < length xs → (get_or xs n 0 ≡ 32 → ⊥) → take (suc n) xs ≡ without_end_blanks (take (suc n) xs)
-all_stay [] n in_it is = absurd (omega arith)
-all_stay (b ∷ bs) zero in_it is = sym (cond-false _ _ _ (ne_eqb b 32 is))
-all_stay (b ∷ []) (suc n) in_it is = absurd (omega arith)
-all_stay (b ∷ c ∷ cs) (suc n) in_it is = ap (before_rest b) (all_stay (c ∷ cs) n (omega arith) is)
+-- with none there, all stay
+all_stay : (xs : List ℕ) → ((front : List ℕ) → xs ≡ front ++ 32 ∷ [] → ⊥) → xs ≡ without_end_blanks xs
+all_stay [] none = refl
+all_stay (b ∷ []) none = sym (cond-false _ _ _ (ne_eqb b 32 (λ is. none [] (ap (λ n. n ∷ []) is))))
+all_stay (b ∷ c ∷ cs) none = ap (before_rest b) (all_stay (c ∷ cs) (λ front is. none (b ∷ front) (ap (λ l. b ∷ l) is)))
 
-one_printed : (b : ℕ) (blank : Bool) → printable b ≡ true → each printable (cond blank [] (b ∷ [])) ≡ true
-one_printed b true h = refl
-one_printed b false h = ap (λ x. x && true) h
+-- what was cut off one after the other were blanks
+cuts : (s : List ℕ) (ns : List ℕ) (r : List ℕ) → CutsSuffixes (FindsCharSuffix 32) s ns r → without_end_blanks r ≡ without_end_blanks s
+cuts s [] r is = ap without_end_blanks is
+cuts s (n ∷ ns) r (m, earlier, found, is) =
+    let start = take (length m - n) m in
+    let whole : m ≡ start ++ 32 ∷ [] =
+    sym (take-append-drop (length m - n) m) ∙ ap (λ l. start ++ l) (drop_at_char 32 m (length m - n) (length m) found.1 (omega arith) ∙ ap (λ l. 32 ∷ l) (drop-length m)) in
+    ap without_end_blanks is ∙ sym (ap without_end_blanks whole ∙ blank_goes start) ∙ cuts s ns m earlier
 
-rest_printed : (b : ℕ) (ys : List ℕ) → printable b ≡ true → each printable ys ≡ true → each printable (before_rest b ys) ≡ true
-rest_printed b [] h k = one_printed b (eqb b 32) h
-rest_printed b (c ∷ cs) h k = ap (λ x. x && each printable (c ∷ cs)) h ∙ k
-
--- what prints still prints without its end blanks
-pub still_printed : (xs : List ℕ) → each printable xs ≡ true → each printable (without_end_blanks xs) ≡ true
-still_printed [] h = refl
-still_printed (b ∷ bs) h =
-    let both = and_parts (printable b) (each printable bs) h in
-    rest_printed b (without_end_blanks bs) both.0 (still_printed bs both.1)
+pub blanks_trimmed : (s r : List ℕ) → IsTrimEndMatches (FindsCharSuffix 32) s r → r ≡ without_end_blanks s
+blanks_trimmed s r ((ns, cut), (None, none, u)) = all_stay r (λ front is. let wrong = (ends_char 32 r false none (omega arith)).1 front is in cc) ∙ cuts s ns r cut
+blanks_trimmed s r ((ns, cut), (Some n, found, is)) = let one : n ≡ 1 = found.0 in absurd (omega (arith, one, is))

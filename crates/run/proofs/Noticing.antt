@@ -1,5 +1,5 @@
 -- The notices of what a file tells, part by part.
-use Rattle.std.proofs.Common.{◌≡◌, ℕ, List, [], ◌∷◌, ◌++◌, Some, None, Err, Option, sym, refl, ap, ◌∙◌, append_assoc, arith}
+use Rattle.std.proofs.Common.{◌≡◌, ℕ, List, [], ◌∷◌, ◌++◌, Some, None, Err, Option, sym, refl, ap, ◌∙◌, append_assoc}
 use Rattle.refusal.specs.declared.Refusal.{Refusal}
 use Rattle.tariff.specs.Meaning.{Meaning}
 use Rattle.event_file.specs.Format.{Shown, label_of}
@@ -18,8 +18,8 @@ refused_notice m s block entry e refusal label is text = go (refusal_to m s (cal
   where
     go : (o : Option Refusal) → Err refusal ≡ answered_as o →
         record { fault = fault_at refusal block entry; label = label } ∷ [] ≡ notice_of block entry e o ++ []
-    go None wrong = let z : ◌≡◌ {A = ℕ} 0 1 = cc in absurd (omega arith)
-    go (Some other) same = let one : refusal ≡ other = cc in cc
+    go None wrong = cc
+    go (Some other) same = cc
 
 -- steps go on from where others led
 pub lived_on : (m : Meaning) (s : State) (xs ys : List Step) → lived m s (xs ++ ys) ≡ lived m (lived m s xs) ys

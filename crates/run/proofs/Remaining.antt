@@ -4,6 +4,7 @@ use Rattle.std.proofs.lemmas.Bool.{cond-false, lt-leb, ne_eqb}
 use Rattle.refusal.specs.declared.Refusal.{Refusal}
 use Rattle.event_file.specs.Blocks.{block_check, block_of, file_blocks}
 use Rattle.event_file.specs.Entries.{Told, event, blank}
+use Rattle.event_file.specs.declared.fault.Place.TheVariants as place
 use Rattle.event_file.specs.Reading.{check_at, checked, end, entry_told, places, placed, refused_block, step_after, step_at}
 use Rattle.run.specs.Telling.{Telling, told_fault, fault_at, entry_tells, entries_tell, only_fault, blocks_tell, opened_tells, file_tells}
 use Rattle.run.specs.Steps.{tells_at}
@@ -76,9 +77,9 @@ module _ (bs : List ℕ) (p : ℕ) (before : p < places bs) where
 
   -- at the start of a block its check decides
   by_check : (check : Result Unit Refusal) → p % 17 ≡ 0 →
-      StepsAt 0 (checked check (only_fault (number + 1)) (entries_tell b number 0 17 ++ later)) check
+      StepsAt 0 (checked check (only_fault (place.Block (number + 1))) (entries_tell b number 0 17 ++ later)) check
   by_check (Ok u) at = entry_then 0 16 at refl
-  by_check (Err refusal) at = ap (λ l. told_fault (fault_at refusal (number + 1) 0) ∷ l) (sym (none_left bs (places bs) refl))
+  by_check (Err refusal) at = ap (λ l. told_fault (record { refusal = refusal; place = place.Block (number + 1) }) ∷ l) (sym (none_left bs (places bs) refl))
 
   steps : (place : ℕ) → p % 17 ≡ place → StepsAt place (from_place bs (length bs / 512) number place) (check_at b place)
   steps zero at =
@@ -106,12 +107,12 @@ module _ (bs : List ℕ) (p : ℕ) (before : p < places bs) where
 
   -- before the end a step does not end the reading
   not_checked_end : (check : Result Unit Refusal) (place : ℕ) → checked check (refused_block (number + 1)) (placed (number + 1) (place + 1) (entry_told b place)) ≡ Ok end → ⊥
-  not_checked_end (Err refusal) place e = let z : ◌≡◌ {A = ℕ} 0 1 = cc in omega arith
+  not_checked_end (Err refusal) place e = cc
   not_checked_end (Ok u) place e = go (entry_told b place) e
     where
       go : (r : Result Told Refusal) → placed (number + 1) (place + 1) r ≡ Ok end → ⊥
-      go (Ok t) e = let z : ◌≡◌ {A = ℕ} 0 1 = cc in omega arith
-      go (Err refusal) e = let z : ◌≡◌ {A = ℕ} 0 1 = cc in omega arith
+      go (Ok t) e = cc
+      go (Err refusal) e = cc
 
   pub not_ended : step_at bs p ≡ Ok end → ⊥
   not_ended e = not_checked_end (check_at b (p % 17)) (p % 17) (sym at_check ∙ e)

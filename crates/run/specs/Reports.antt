@@ -4,7 +4,7 @@
 --   steps_told   the steps that the events of a file ask for
 --   ending       the state of zone and tables after a file
 --   RunsAsLife   the run of a file is a life, and the accounts hold at its end
-use Rattle.std.specs.Prelude.{ℕ, ◌+◌, cond, List, [], ◌∷◌, ◌++◌, Some, None, Option, ◌==◌}
+use Rattle.std.specs.Prelude.{ℕ, ◌+◌, cond, List, [], ◌∷◌, ◌++◌, Some, None, Option, ◌==◌, flat_map}
 use Rattle.refusal.specs.declared.Refusal.{Refusal}
 use Rattle.tariff.specs.Meaning.{Meaning}
 use Rattle.event_file.specs.Format.{Shown, label_of}
@@ -14,7 +14,6 @@ use Rattle.book.specs.Life.{Life, empty_state}
 use Rattle.book.specs.Laws.{Accounted, HeldUnder}
 use Rattle.book.specs.Runs.{Step, lived, calls}
 use Rattle.book.specs.Tally.{Made}
-use Rattle.book.specs.Lists.{joined}
 use Rattle.run.specs.Telling.{Telling, told_event, told_fault, fault_at, file_tells}
 use Rattle.run.specs.Taking.{call_of, steps_for, refusal_to}
 
@@ -55,7 +54,7 @@ telling_steps (told_event block entry e) = steps_for (call_of e)
 telling_steps (told_fault fault) = []
 
 abbrev pub steps_told : List Telling → List Step
-steps_told tellings = joined telling_steps tellings
+steps_told tellings = flat_map telling_steps tellings
 
 abbrev pub file_steps : List ℕ → List Step
 file_steps bs = steps_told (file_tells bs)

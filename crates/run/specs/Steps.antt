@@ -3,7 +3,7 @@
 --   shown_notice  a notice with its label as a list of bytes
 --   noticed       the notice that a step gives, if it gives one
 --   Goes          a step that is not the last goes forward in the file
-use Rattle.std.specs.Prelude.{◌≡◌, ℕ, ◌<◌, ◌≤◌, Bool, true, false, List, [], ◌∷◌, Ok, Err, Result}
+use Rattle.std.specs.Prelude.{◌≡◌, ℕ, ◌<◌, ◌≤◌, List, [], ◌∷◌, Some, None, Ok, Err, Option, Result}
 use Rattle.event_file.specs.Entries.{event, blank}
 use Rattle.event_file.specs.Reading.{Outcome, entry_at, end, places, step_at}
 use Rattle.event_file.specs.declared.fault.Fault.{Fault}
@@ -20,12 +20,13 @@ tells_at (Err fault) = told_fault fault ∷ []
 abbrev pub shown_notice : Notice → ShownNotice
 shown_notice notice = record { fault = notice.fault; label = notice.label.now }
 
-abbrev pub noticed : Result Bool Notice → List ShownNotice
-noticed (Ok more) = []
-noticed (Err notice) = shown_notice notice ∷ []
+-- An entry that is taken gives no notice, and neither does the end of the file.
+abbrev pub noticed : Option (Result (Unit {0}) Notice) → List ShownNotice
+noticed None = []
+noticed (Some (Ok taken)) = []
+noticed (Some (Err notice)) = shown_notice notice ∷ []
 
 -- From a position p to a position q, unless the file has ended.
-abbrev pub Goes : List ℕ → ℕ → ℕ → Result Bool Notice → Type 0
-Goes bs p q (Ok true) = (p < q) × (q ≤ places bs)
-Goes bs p q (Ok false) = step_at bs p ≡ Ok end
-Goes bs p q (Err notice) = (p < q) × (q ≤ places bs)
+abbrev pub Goes : List ℕ → ℕ → ℕ → Option (Result (Unit {0}) Notice) → Type 0
+Goes bs p q None = step_at bs p ≡ Ok end
+Goes bs p q (Some taken) = (p < q) × (q ≤ places bs)

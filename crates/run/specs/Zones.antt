@@ -1,44 +1,56 @@
 -- The zone of a run, with its tables, as a state of a life.
-use Rattle.std.specs.Prelude.{ℕ, Some, None, Ok, Err, Option, Result}
+--   state_of   the state that the books of a run stand for
+--   ComesTo    a call comes to a result: the zone that it leads to, or the refusal and the zone as it was
+--   Billed     a levy was billed on these tables
+use Rattle.std.specs.Prelude.{◌≡◌, ℕ, List, Some, None, Ok, Err, Option, Result}
 use Rattle.refusal.specs.declared.Refusal.{Refusal}
 use Rattle.tariff.specs.Meaning.{Meaning}
-use Rattle.book.specs.Zone.{State, Tables}
-use Rattle.book.specs.Calls.{Call, commitment, raise, commitment_event, raise_event}
-use Rattle.book.specs.Promises.{prepared, launched_on}
+use Rattle.book.specs.Zone.{State, Tables, Answer}
+use Rattle.book.specs.Answers.{billing}
+use Rattle.book.specs.Calls.{Call}
+use Rattle.book.specs.Passing.{tables}
+use Rattle.book.specs.Promises.{prepared, launched_on, levied_on}
 use Rattle.book.specs.declared.launched.LaunchedZone.{LaunchedZone}
+use Rattle.book.specs.declared.levy.OpenLevy.{OpenLevy}
+use Rattle.book.specs.declared.lines.Line.{Line}
 use Rattle.book.specs.declared.refused.Refused.{Refused}
-use Rattle.book.specs.declared.zone.Change.{Change}
-use Rattle.book.specs.declared.zone.Change.TheVariants.{Commitment, Raise}
 use Rattle.book.specs.declared.zone.Event.{Event}
+use Rattle.book.specs.declared.zone.Figures.{Figures}
+use Rattle.run.specs.declared.books.Books.{Books}
+use Rattle.run.specs.declared.ledger.Ledger.{Ledger}
 use Rattle.run.specs.declared.zone.Zone.{Zone}
 use Rattle.run.specs.declared.zone.Zone.TheVariants.{Prepared, Launched}
-use Rattle.run.specs.declared.kept.Kept.{Kept}
 use Rattle.run.specs.Taking.{Leads}
 
 abbrev pub state_in : Zone → Tables → State
 state_in (Prepared zone) t = prepared zone t
 state_in (Launched zone) t = launched_on zone t
 
--- The call and the event of a change.
-abbrev pub change_call : Change → ℕ → ℕ → ℕ → Call
-change_call Commitment date operator rate = commitment date operator rate
-change_call Raise date operator rate = raise date operator rate
+abbrev pub tables_of : Ledger → Tables
+tables_of ledger = tables ledger.roll ledger.register
 
-abbrev pub change_event : Change → ℕ → ℕ → ℕ → Event
-change_event Commitment date operator rate = commitment_event date operator rate
-change_event Raise date operator rate = raise_event date operator rate
+abbrev pub state_of : Books → State
+state_of books = state_in books.zone (tables_of books.ledger)
 
 -- No refusal, or one, as the answer of a call.
 abbrev pub answered_as : Option Refusal → Result (Unit {0}) Refusal
 answered_as None = Ok tt
 answered_as (Some refusal) = Err refusal
 
--- A call comes to this result: the zone that it leads to, or the refusal and the zone as it was.
-abbrev pub ComesTo : Meaning → State → Call → Tables → Result Zone Kept → Type 0
-ComesTo m s call t (Ok zone) = Leads m s call None (state_in zone t)
-ComesTo m s call t (Err kept) = Leads m s call (Some kept.refusal) (state_in kept.zone t)
+-- A call comes to this result, with these tables after it, by what a zone that it leads to and one that it leaves stand for.
+abbrev pub ComesTo : {Z Y : Type 0} → (Z → Tables → State) → (Y → Tables → State) → Meaning → State → Call → Tables → Result Z (Refused Y) → Type 0
+ComesTo led left m s call t (Ok zone) = Leads m s call None (led zone t)
+ComesTo led left m s call t (Err back) = Leads m s call (Some back.refusal) (left back.kept t)
 
--- The same of a launched zone that stays launched.
+-- A launched zone stays launched, whatever the call.
 abbrev pub StaysLaunched : Meaning → State → Call → Tables → Result LaunchedZone (Refused LaunchedZone) → Type 0
-StaysLaunched m s call t (Ok zone) = Leads m s call None (launched_on zone t)
-StaysLaunched m s call t (Err back) = Leads m s call (Some back.refusal) (launched_on back.kept t)
+StaysLaunched m s call t r = ComesTo launched_on launched_on m s call t r
+
+-- A levy was opened by billing an event on these tables.
+pub record Billed (m : Meaning) (t : Tables) (levy : OpenLevy) : Type 0 where
+  pub figures : Figures
+  pub launch_date : ℕ
+  pub event : Event
+  pub places : ℕ
+  pub lines : List Line
+  pub answer : ◌≡◌ {A = Answer} (Ok (record { state = levied_on levy t; lines = lines })) (billing m figures launch_date t places event)

@@ -1,63 +1,43 @@
 // An opening or cabling of a launched zone.
-ghost use Rattle.std.specs.Prelude.{◌≡◌, length};
-ghost use Rattle.book.specs.Calls.{opening, cabling};
-ghost use Rattle.book.specs.Passing.{tables};
+ghost use Rattle.book.specs.Calls.{opening as call_opening, cabling as call_cabling};
 ghost use Rattle.book.specs.Promises.{launched_on};
-ghost use Rattle.run.specs.Zones.{StaysLaunched};
+ghost use Rattle.run.specs.Zones.{tables_of, StaysLaunched};
 
-use book::entries::{RegisterEntry, RollEntry};
+use crate::ledger::Ledger;
 use book::launched::LaunchedZone;
-use book::lines::Line;
 use book::refused::Refused;
-use book::written::Written;
 use tariff::tariff::Tariff;
 
-pub(crate) fn opened<T: Tariff>(
-    zone: LaunchedZone,
-    sheet: &T,
-    roll: &[RollEntry],
-    register: &mut [RegisterEntry],
-    strip: &mut [Line],
-    date: u32,
-    object: u32,
-    dwellings: u32,
-) -> Result<LaunchedZone, Refused<LaunchedZone>>
-    requires { length strip.old ≡ 1024 }
-    ensures answer { StaysLaunched (T.meaning sheet.now) (launched_on zone (tables roll.now register.old)) (opening date object dwellings) (tables roll.now register.new) result }
-{
-    let Written {
-        zone: after,
-        lines: _,
-    } = zone.opening(sheet, roll, register, strip, date, object, dwellings)?;
-    Ok(after)
-}
+// The two differ in the call alone: passed in as a closure, it would take as many lines as each has.
+impl Ledger {
+    pub(crate) fn opening<T: Tariff>(
+        &mut self,
+        zone: LaunchedZone,
+        sheet: &T,
+        date: u32,
+        object: u32,
+        dwellings: u32,
+    ) -> Result<LaunchedZone, Refused<LaunchedZone>>
+        ensures answer { StaysLaunched (T.meaning sheet.now) (launched_on zone (tables_of self.old)) (call_opening date object dwellings) (tables_of self.new) result }
+    {
+        let (roll, register, strip) = (&self.roll, &mut self.register, &mut self.strip);
+        let done = zone.opening(sheet, roll, register, strip, date, object, dwellings)?;
+        Ok(done.zone)
+    }
 
-pub(crate) fn cabled<T: Tariff>(
-    zone: LaunchedZone,
-    sheet: &T,
-    roll: &[RollEntry],
-    register: &mut [RegisterEntry],
-    strip: &mut [Line],
-    date: u32,
-    object: u32,
-    third_party: bool,
-    dwellings: u32,
-) -> Result<LaunchedZone, Refused<LaunchedZone>>
-    requires { length strip.old ≡ 1024 }
-    ensures answer { StaysLaunched (T.meaning sheet.now) (launched_on zone (tables roll.now register.old)) (cabling date object third_party dwellings) (tables roll.now register.new) result }
-{
-    let Written {
-        zone: after,
-        lines: _,
-    } = zone.cabling(
-        sheet,
-        roll,
-        register,
-        strip,
-        date,
-        object,
-        third_party,
-        dwellings,
-    )?;
-    Ok(after)
+    pub(crate) fn cabling<T: Tariff>(
+        &mut self,
+        zone: LaunchedZone,
+        sheet: &T,
+        date: u32,
+        object: u32,
+        third: bool,
+        dwellings: u32,
+    ) -> Result<LaunchedZone, Refused<LaunchedZone>>
+        ensures answer { StaysLaunched (T.meaning sheet.now) (launched_on zone (tables_of self.old)) (call_cabling date object third dwellings) (tables_of self.new) result }
+    {
+        let (roll, register, strip) = (&self.roll, &mut self.register, &mut self.strip);
+        let done = zone.cabling(sheet, roll, register, strip, date, object, third, dwellings)?;
+        Ok(done.zone)
+    }
 }

@@ -2,14 +2,15 @@
 #![tactic(auto)]
 
 mod advance;
-mod billed;
+mod books;
 mod installed;
-mod kept;
 mod label;
+mod ledger;
 pub mod notice;
 mod reading;
 pub mod report;
 pub mod run;
+mod subscribed;
 mod take;
 pub mod text;
 mod zone;

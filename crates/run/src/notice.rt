@@ -4,7 +4,7 @@ ghost use Rattle.std.specs.Prelude.{◌≡◌, []};
 use event_file::fault::Fault;
 
 // The refusal with its block and entry, and the text of the entry's label. What is refused before its entry is read
-// has no text.
+// has an empty text and no option of one, since a label of blanks alone shows the same.
 #[derive(Clone, Copy)]
 pub struct Notice<'a> {
     pub fault: Fault,

@@ -1,71 +1,44 @@
-// A file read from its first entry to its last, through the zone.
-ghost use Rattle.std.specs.Prelude.{◌≡◌, ◌+◌, ◌/◌, ◌≤◌, ◌++◌, length, Ok, vec_len, vec_capacity};
-ghost use Rattle.event_file.specs.Blocks.{file_blocks};
-ghost use Rattle.event_file.specs.Reading.{places};
-ghost use Rattle.book.specs.Lists.{each};
-ghost use Rattle.book.specs.Passing.{tables};
+// A file read from its first entry to its last, through the books.
+ghost use Rattle.std.specs.Prelude.{◌≡◌, IfOk, OnOk, map};
 ghost use Rattle.book.specs.Runs.{lived};
 ghost use Rattle.run.specs.Telling.{file_tells};
 ghost use Rattle.run.specs.Reports.{notices as notices_of, steps_told};
 ghost use Rattle.run.specs.Steps.{shown_notice};
-ghost use Rattle.run.specs.Zones.{state_in};
+ghost use Rattle.run.specs.Zones.{state_of};
 
 use crate::advance::advance;
+use crate::books::Books;
 use crate::notice::Notice;
-use crate::zone::Zone;
-use book::entries::{RegisterEntry, RollEntry};
-use book::lines::Line;
 use event_file::reader::Reader;
+use std::alloc::{AllocError, Global};
 use tariff::tariff::Tariff;
 
-// Takes every entry that is left, and notes what is refused.
-fn read_on<'a, T: Tariff>(
-    reader: &mut Reader<'a>,
-    zone: &mut Zone,
+// A longest file has 128 blocks of 17 entries, and each is refused at most once. There is room for all from the start, so
+// that want of memory stops a run before anything is read.
+const MOST_NOTICES: usize = 2176;
+
+// Takes every entry of a file and gives what is refused, or why the file is refused as a whole.
+pub(crate) fn read_file<'a, T: Tariff>(
+    heap: Global,
+    bytes: &'a [u8],
+    books: &mut Books,
     sheet: &T,
-    roll: &mut [RollEntry],
-    register: &mut [RegisterEntry],
-    strip: &mut [Line],
-    notices: &mut Vec<Notice<'a>>,
-)
-    requires lawful { file_blocks (length reader.old.bytes.now) ≡ Ok (length reader.old.bytes.now / 512) }
-    requires start { reader.old.position ≡ 0 }
-    requires register { length register.old ≤ 64 }
-    requires strip { length strip.old ≡ 1024 }
-    requires room { vec_len notices.old + places reader.old.bytes.now ≤ vec_capacity notices.old }
-    ensures notices { each shown_notice notices.new.items ≡ each shown_notice notices.old.items ++ notices_of (T.meaning sheet.now) (state_in zone.old (tables roll.old register.old)) (file_tells reader.old.bytes.now) }
-    ensures after { state_in zone.new (tables roll.new register.new) ≡ lived (T.meaning sheet.now) (state_in zone.old (tables roll.old register.old)) (steps_told (file_tells reader.old.bytes.now)) }
+) -> Result<Vec<Notice<'a>>, AllocError>
+    ensures notices { IfOk result (λ x. map shown_notice x.items ≡ notices_of (T.meaning sheet.now) (state_of books.old) (file_tells bytes.now)) }
+    ensures after { OnOk result (state_of books.new ≡ lived (T.meaning sheet.now) (state_of books.old) (steps_told (file_tells bytes.now))) }
 {
-    loop {
-        match advance(reader, zone, sheet, roll, register, strip) {
-            Ok(more) => {
-                if !more {
-                    return;
-                }
-            }
-            Err(notice) => notices.push_reserved(notice),
+    let mut notices = Vec::with_capacity(heap, MOST_NOTICES)?;
+    let mut reader = match Reader::open(bytes) {
+        Ok(reader) => reader,
+        Err(fault) => {
+            notices.push_reserved(Notice::from(fault));
+            return Ok(notices);
+        }
+    };
+    while let Some(taken) = advance(&mut reader, books, sheet) {
+        if let Err(notice) = taken {
+            notices.push_reserved(notice);
         }
     }
-}
-
-// Takes every entry of a file, or notes why it is refused as a whole.
-pub(crate) fn read_file<'a, T: Tariff>(
-    bytes: &'a [u8],
-    zone: &mut Zone,
-    sheet: &T,
-    roll: &mut [RollEntry],
-    register: &mut [RegisterEntry],
-    strip: &mut [Line],
-    notices: &mut Vec<Notice<'a>>,
-)
-    requires register { length register.old ≤ 64 }
-    requires strip { length strip.old ≡ 1024 }
-    requires room { vec_len notices.old + 2176 ≤ vec_capacity notices.old }
-    ensures notices { each shown_notice notices.new.items ≡ each shown_notice notices.old.items ++ notices_of (T.meaning sheet.now) (state_in zone.old (tables roll.old register.old)) (file_tells bytes.now) }
-    ensures after { state_in zone.new (tables roll.new register.new) ≡ lived (T.meaning sheet.now) (state_in zone.old (tables roll.old register.old)) (steps_told (file_tells bytes.now)) }
-{
-    match Reader::open(bytes) {
-        Ok(mut reader) => read_on(&mut reader, zone, sheet, roll, register, strip, notices),
-        Err(fault) => notices.push_reserved(Notice::from(fault)),
-    }
+    Ok(notices)
 }

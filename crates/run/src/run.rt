@@ -1,17 +1,14 @@
 // An event file run through the book, from an empty zone to its report.
-ghost use Rattle.std.specs.Prelude.{◌≡◌, IfOk, OnErr, OnOk};
+ghost use Rattle.std.specs.Prelude.{◌≡◌, IfOk, OnErr, OnOk, map};
 ghost use Rattle.money.specs.Signs.{apart, below_zero};
-ghost use Rattle.book.specs.Lists.{each};
 ghost use Rattle.book.specs.Passing.{tables};
 ghost use Rattle.run.specs.Reports.{ending, file_notices, paid_out, Closed, RunsAsLife};
 ghost use Rattle.run.specs.Steps.{shown_notice};
 
+use crate::books::Books;
 use crate::reading::read_file;
 use crate::report::Report;
-use crate::zone::Zone;
 use book::entries::{RegisterEntry, RollEntry};
-use book::lines::{Line, Nature};
-use book::prepared::PreparedZone;
 use money::signed::SignedMoney;
 use std::alloc::{AllocError, Global};
 use tariff::tariff::Tariff;
@@ -19,21 +16,6 @@ use tariff::tariff::Tariff;
 pub const ROLL_PLACES: usize = 16;
 
 pub const REGISTER_PLACES: usize = 64;
-
-// A share-out among 16 operators for 64 objects has at most as many lines.
-const STRIP_PLACES: usize = 1024;
-
-// A longest file has 128 blocks of 17 entries, and each is refused at most once.
-const MOST_NOTICES: usize = 2176;
-
-const NO_LINE: Line = Line {
-    nature: Nature::Charge,
-    operator: 0,
-    object: 0,
-    unit: 0,
-    quantity: 0,
-    total: 0,
-};
 
 // Runs a file through an empty zone with these tables, each levy shared out at once. Whatever the file holds it gives a
 // report; only want of memory stops it, and that before anything is read.
@@ -44,7 +26,7 @@ pub fn run<'a, T: Tariff>(
     roll: &mut [RollEntry; ROLL_PLACES],
     register: &mut [RegisterEntry; REGISTER_PLACES],
 ) -> Result<Report<'a>, AllocError>
-    ensures notices { IfOk result (λ x. each shown_notice x.notices.items ≡ file_notices (T.meaning sheet.now) (tables roll.old register.old) bytes.now) }
+    ensures notices { IfOk result (λ x. map shown_notice x.notices.items ≡ file_notices (T.meaning sheet.now) (tables roll.old register.old) bytes.now) }
     ensures figures { IfOk result (λ x. x.figures ≡ (ending (T.meaning sheet.now) (tables roll.old register.old) bytes.now).figures) }
     ensures tables { OnOk result (tables roll.new register.new ≡ (ending (T.meaning sheet.now) (tables roll.old register.old) bytes.now).tables) }
     ensures held { IfOk result (λ x. (x.held.negative ≡ below_zero x.figures.totals.contributed (paid_out (ending (T.meaning sheet.now) (tables roll.old register.old) bytes.now))) × (x.held.amount.micros ≡ apart x.figures.totals.contributed (paid_out (ending (T.meaning sheet.now) (tables roll.old register.old) bytes.now)))) }
@@ -52,19 +34,12 @@ pub fn run<'a, T: Tariff>(
     ensures kept { OnErr result ((roll.new ≡ roll.old) × (register.new ≡ register.old)) }
     ensures life { RunsAsLife (T.meaning sheet.now) (tables roll.old register.old) bytes.now }
 {
-    let mut notices = Vec::with_capacity(heap, MOST_NOTICES)?;
-    let mut zone = Zone::Prepared(PreparedZone::new());
-    let mut strip = [NO_LINE; STRIP_PLACES];
-    read_file(
-        bytes,
-        &mut zone,
-        sheet,
-        roll,
-        register,
-        &mut strip,
-        &mut notices,
-    );
-    let figures = zone.figures();
+    // The books hold copies of the tables, and what becomes of them is handed back at the end.
+    let mut books = Books::new(*roll, *register);
+    let notices = read_file(heap, bytes, &mut books, sheet)?;
+    *roll = books.ledger.roll;
+    *register = books.ledger.register;
+    let figures = books.figures();
     let totals = figures.totals;
     let held = SignedMoney::difference(totals.contributed, totals.credited + totals.unshared);
     Ok(Report {

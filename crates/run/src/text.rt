@@ -18,8 +18,8 @@ impl<'a> fmt::Display for Notice<'a> {
 
     fn fmt<W: fmt::Write>(&self, f: &mut fmt::Formatter<W>) -> fmt::Result {
         let number = self.fault.refusal.number();
-        let block = self.fault.block;
-        let entry = self.fault.entry;
+        let block = self.fault.place.block();
+        let entry = self.fault.place.entry();
         let label = self.label;
         let gap = gap_before(label);
         write!(

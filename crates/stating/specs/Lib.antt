@@ -1,2 +1,3 @@
 pub mod Statements
 pub mod Network
+pub mod Lines

@@ -1,20 +1,23 @@
 -- The statement of a run, line by line: what was refused, every operator in roll order, and the totals.
-use Rattle.std.specs.Prelude.{ℕ, ◌+◌, List, ◌++◌, codes, decimal}
+use Rattle.std.specs.Prelude.{ℕ, ◌+◌, List, ◌++◌, codes, decimal, flat_map}
 use Rattle.money.specs.Text.{money_text}
 use Rattle.money.specs.Signs.{difference_text}
 use Rattle.tariff.specs.Meaning.{Meaning}
-use Rattle.book.specs.Lists.{joined}
 use Rattle.book.specs.Members.{rate_of}
 use Rattle.book.specs.Zone.{State, Tables, counted_roll}
 use Rattle.book.specs.declared.entries.RollEntry.{RollEntry}
 use Rattle.book.specs.declared.zone.Totals.{Totals}
 use Rattle.run.specs.Reports.{ShownNotice, ending, file_notices}
 use Rattle.run.specs.Texts.{notice_text}
+use Rattle.stating.specs.declared.shown.Account.{Account}
 
 -- An operator with its tranches of all years together and its balance.
-abbrev pub account_text : RollEntry → List ℕ
-account_text e =
-    codes "OP " ++ (decimal e.operator ++ (codes " TRANCHES " ++ (decimal (rate_of e.tranches) ++ (codes " BALANCE " ++ money_text e.balance))))
+abbrev pub account_of : RollEntry → Account
+account_of e = record { operator = e.operator; tranches = rate_of e.tranches; balance = record { micros = e.balance } }
+
+abbrev pub account_text : Account → List ℕ
+account_text a =
+    codes "OP " ++ (decimal a.operator ++ (codes " TRANCHES " ++ (decimal a.tranches ++ (codes " BALANCE " ++ money_text a.balance.micros))))
 
 -- The totals, and the text of what is held.
 abbrev pub totals_text : Totals → List ℕ → List ℕ
@@ -28,7 +31,7 @@ line text = text ++ codes "\n"
 
 abbrev pub statement_text : List ShownNotice → List RollEntry → Totals → List ℕ → List ℕ
 statement_text notices roll totals held =
-    joined (λ n. line (notice_text n)) notices ++ (joined (λ e. line (account_text e)) roll ++ line (totals_text totals held))
+    flat_map (λ n. line (notice_text n)) notices ++ (flat_map (λ e. line (account_text (account_of e))) roll ++ line (totals_text totals held))
 
 -- What is held is contributed less credited less unshared.
 abbrev pub held_text : Totals → List ℕ

@@ -1,4 +1,5 @@
 // The statement of an event file: its text, and how it is made for the network.
 #![tactic(auto)]
 
+mod shown;
 pub mod text;

@@ -1,5 +1,5 @@
 -- Sums worked by hand, as facts of the definitions.
-use Rattle.std.specs.Prelude.{◌≡◌, ℕ, ◌+◌, ◌*◌, List, [], ◌∷◌, ◌++◌, Some, None, Option, slice_index}
+use Rattle.std.specs.Prelude.{◌≡◌, ℕ, ◌+◌, ◌*◌, List, [], ◌∷◌, ◌++◌, Some, None, Option, slice_index, map}
 use Rattle.calendar.specs.Days.{index_of}
 use Rattle.series.specs.declared.rows.Dated.{Dated}
 use Rattle.series.specs.declared.limits.IndexNumber.{IndexNumber}
@@ -15,7 +15,7 @@ use Rattle.tariff.specs.declared.kinds.Kind.{Kind}
 use Rattle.tariff.specs.declared.kinds.Kind.TheVariants.{Connectable}
 use Rattle.tariff.specs.declared.kinds.Coefficient.{Coefficient}
 use Rattle.sheet_parts.specs.declared.given.Prices.{Prices}
-use Rattle.book.specs.Lists.{total, each}
+use Rattle.book.specs.Lists.{total}
 use Rattle.book.specs.Members.{Member, Addition, weight_to}
 use Rattle.book.specs.Sharing.{object_contribution, credits}
 use Rattle.book.specs.Calls.{opened, commitment, raise, launch, opening, share_out}
@@ -51,7 +51,7 @@ abbrev pub of_one_tranche : ℕ → Member
 of_one_tranche operator = record { operator = operator; tranches = 1 ∷ []; balance = 0 }
 
 abbrev pub seven : List Member
-seven = each of_one_tranche (1 ∷ 2 ∷ 3 ∷ 4 ∷ 5 ∷ 6 ∷ 7 ∷ [])
+seven = map of_one_tranche (1 ∷ 2 ∷ 3 ∷ 4 ∷ 5 ∷ 6 ∷ 7 ∷ [])
 
 -- An eighth takes one tranche a year after a PM of 300 dwellings was opened.
 abbrev pub eighth : Addition
@@ -84,7 +84,7 @@ in_2015 = in_2013 ++ (share_out on 2 ∷ commitment 20150601 3 1 on 2 ∷ [])
 abbrev pub weights_after : List Step → ℕ → List ℕ
 weights_after steps index =
     let end = lived falling_sheet (blank 4 3) steps in
-    each (λ x. weight_to falling_sheet index x.tranches) (counted_members end.figures end.tables)
+    map (λ x. weight_to falling_sheet index x.tranches) (counted_members end.figures end.tables)
 
 pub record WorkedSums : Type 0 where
   pub months_0 : in_1200ths 0 1200

@@ -1,16 +1,14 @@
-use Rattle.std.proofs.Common.{Some, sym, ap, ◌∙◌, arith}
-use Rattle.book.proofs.Rolls.{rate_here, rate_next, rate_none}
+use Rattle.std.proofs.Common.{Some, ap, ◌∙◌}
+use Rattle.std.specs.Option.{option_map}
+use Rattle.book.specs.Members.{rate_of}
+use Rattle.book.specs.declared.entries.RollEntry.{RollEntry}
+use Rattle.book.proofs.Rolls.{rate_found}
 use Rattle.book.proofs.checks.rate_on.Goals as goal
 
-pub returns-then-item-operator : goal.returns-then-item-operator
-returns-then-item-operator c =
-    let here = rate_here c.args.operator c.args.roll.now c.loop-item.item-index (omega arith) c.if-item-operator.true in
-    record { value = ap Some c.rate_of.ensures.value ∙ sym (sym c.loop-item.invariant ∙ here) }
-
-pub loop-item-preserved : goal.loop-item-preserved
-loop-item-preserved c =
-    sym (rate_next c.args.operator c.args.roll.now c.loop-item.item-index (omega arith) c.if-item-operator.false) ∙ c.loop-item.invariant
+pub returns-in_err-member : goal.returns-in_err-member
+returns-in_err-member c =
+    record { value = c.from_residual.ensures ∙ ap (option_map (λ (e : RollEntry). rate_of e.tranches)) c.in_err-member.ensures.value ∙ rate_found c.args.operator c.args.roll.now }
 
 pub returns : goal.returns
 returns c =
-    record { value = sym (rate_none c.args.operator c.args.roll.now c.loop-item.item-index (omega arith)) ∙ c.loop-item.invariant }
+    record { value = ap Some c.rate_of.ensures.value ∙ ap (option_map (λ (e : RollEntry). rate_of e.tranches)) c.in_ok-member.ensures.value ∙ rate_found c.args.operator c.args.roll.now }

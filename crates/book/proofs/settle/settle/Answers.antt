@@ -1,35 +1,15 @@
-use Rattle.std.proofs.Common.{arith}
 use Rattle.book.specs.Increases.{addition_in}
-use Rattle.book.proofs.Afterwards.{credited_long, credited_rates, credited_room, credited_written, credited_count}
+use Rattle.book.proofs.Afterwards.{credited_rates, credited_room, credited_written}
 use Rattle.book.proofs.settle.settle.Goals as goal
 
-pub enter-operators-requires : goal.enter-operators-requires
-enter-operators-requires g c =
-    let m = g.T.Tariff.meaning c.args.sheet.now in
-    let a = addition_in c.args.increase in
-    let os = c.args.register.now in
-    let roll = c.args.roll.now in
-    record {
-      few = c.requires.few;
-      index = c.requires.index;
-      counted = omega (arith, credited_long m a os roll c.args.counted c.requires.counted _ c.share_out-totals.ensures.roll, c.requires.counted);
-      rates = credited_rates m a os roll c.args.counted c.requires.counted _ c.share_out-totals.ensures.roll c.requires.roll;
-      room = credited_room m a os roll c.args.counted c.requires.counted _ c.share_out-totals.ensures.roll c.requires.place;
-    }
+pub enter-operators-requires-clause-rates : goal.enter-operators-requires-clause-rates
+enter-operators-requires-clause-rates g c =
+    credited_rates (g.T.Tariff.meaning c.args.sheet.now) (addition_in c.args.increase) c.args.objects.items.now c.args.roll.now c.args.counted c.requires.counted _ c.share_out-totals.ensures.roll c.requires.roll
 
-pub returns : goal.returns
-returns g c =
-    let m = g.T.Tariff.meaning c.args.sheet.now in
-    let a = addition_in c.args.increase in
-    let os = c.args.register.now in
-    let roll = c.args.roll.now in
-    record {
-      contributed = c.share_out-totals.ensures.contributed;
-      credited = c.share_out-totals.ensures.credited;
-      unshared = c.share_out-totals.ensures.unshared;
-      lines = c.share_out-totals.ensures.number;
-      most = c.share_out-totals.ensures.most;
-      strip = c.share_out-totals.ensures.strip;
-      roll = credited_written m a os roll c.args.counted c.requires.counted _ c.share_out-totals.ensures.roll _ c.enter-operators.ensures.roll;
-      number = credited_count m a os roll c.args.counted c.requires.counted _ c.share_out-totals.ensures.roll _ c.enter-operators.ensures.number;
-    }
+pub enter-operators-requires-clause-room : goal.enter-operators-requires-clause-room
+enter-operators-requires-clause-room g c =
+    credited_room (g.T.Tariff.meaning c.args.sheet.now) (addition_in c.args.increase) c.args.objects.items.now c.args.roll.now c.args.counted c.requires.counted _ c.share_out-totals.ensures.roll c.requires.place
+
+pub returns-clause-roll : goal.returns-clause-roll
+returns-clause-roll g c =
+    credited_written (g.T.Tariff.meaning c.args.sheet.now) (addition_in c.args.increase) c.args.objects.items.now c.args.roll.now c.args.counted c.requires.counted _ c.share_out-totals.ensures.roll _ c.enter-operators.ensures.roll

@@ -1,14 +1,15 @@
 use Rattle.std.proofs.Common.{◌*◌, ◌<◌, ◌≤◌, [], length, sym, ap, ◌∙◌, mul-le-mul, arith}
+use Rattle.std.proofs.lemmas.List.{length-map}
 use Rattle.tariff.specs.declared.kinds.Kind.TheVariants.{Covered}
 use Rattle.book.specs.Lists.{written}
 use Rattle.book.specs.Increases.{addition_in}
 use Rattle.book.specs.declared.entries.RollEntry.{RollEntry}
 use Rattle.book.specs.declared.entries.RegisterEntry.{RegisterEntry}
 use Rattle.book.specs.Members.{members_of, member_of}
-use Rattle.book.proofs.Totals.{all_also, length_each}
+use Rattle.book.proofs.Totals.{all_also}
 use Rattle.book.proofs.Counting.{lines_counted}
-use Rattle.book.proofs.Soundness.{all_sound, faultless_at}
-use Rattle.book.proofs.Crediting.{sums, outer_start, credit_place, inner_yes, inner_no, inner_done, object_room, outer_next, outer_done, turn_rate, turn_balance, turn_whole, turn_part, credits_are, entries_are, unshared_is}
+use Rattle.book.proofs.Soundness.{all_sound}
+use Rattle.book.proofs.Crediting.{sums, outer_start, credit_place, inner_yes, inner_no, inner_done, object_room, outer_next, outer_done, turn_balance, turn_whole, turn_part, credits_are, entries_are, unshared_is}
 use Rattle.book.proofs.share.share_out.Given as given
 use Rattle.book.proofs.share.share_out.Goals as goal
 use Rattle.book.proofs.share.share_out.Goals.{Then-is_due, then-is_due, else-is_due}
@@ -19,46 +20,34 @@ blank = record { operator = 0; tranches = []; balance = 0 }
 abbrev nothing : RegisterEntry
 nothing = record { object = 0; kind = Covered; installed = 0; dwellings = 0 }
 
-pub loop-object-init : goal.loop-object-init
-loop-object-init g c =
+pub loop-item-init : goal.loop-item-init
+loop-item-init g c =
     let sound = all_sound c.args.roll.now c.requires.roll in
-    outer_start (g.T.Tariff.meaning c.args.sheet.now) (addition_in c.args.increase) c.whole_weight-whole.result c.args.register.now c.args.roll.now c.args.strip.now
+    outer_start (g.T.Tariff.meaning c.args.sheet.now) (addition_in c.args.increase) c.whole_weight-whole.result c.args.objects.items.now c.args.roll.now c.args.strip.now
     c.whole_weight-whole.ensures.value (all_also (λ e x. x.rate) c.args.roll.now sound) (all_also (λ e x. x.held) c.args.roll.now sound)
 
-pub contribution_of-amount-requires : goal.contribution_of-amount-requires
-contribution_of-amount-requires g c = record {
-  few = c.requires.few;
-  sound = faultless_at c.args.register.now c.requires.register c.loop-object.object-index nothing c.loop-object-test.true;
-}
-
-pub weight_to-weight-requires : goal.weight_to-weight-requires
-weight_to-weight-requires g c = record {
-  index = c.requires.index;
-  rate = turn_rate c.loop-object.invariant c.loop-member.invariant blank (omega arith);
-}
-
 -- a share is due, of at most the amount, and its line has a place
-product_in : (g : given.Over) (c : Then-is_due g) → c.contribution_of-amount.result * c.weight_to-weight.result ≤ 400000000000000000
-product_in g c = mul-le-mul c.contribution_of-amount.ensures.most c.weight_to-weight.ensures.most
+product_in : (g : given.Over) (c : Then-is_due g) → c.contribution-amount.result * c.weight_to-weight.result ≤ 400000000000000000
+product_in g c = mul-le-mul c.contribution-amount.ensures.most c.weight_to-weight.ensures.most
 
 part_in : (g : given.Over) (c : Then-is_due g) →
-    (g.T.Tariff.meaning c.args.sheet.now).rounded (c.contribution_of-amount.result * c.weight_to-weight.result) c.whole_weight-whole.result ≤ 100000000000000
+    (g.T.Tariff.meaning c.args.sheet.now).rounded (c.contribution-amount.result * c.weight_to-weight.result) c.whole_weight-whole.result ≤ 100000000000000
 part_in g c =
-    turn_part c.loop-object.invariant c.loop-member.invariant blank (omega arith) c.contribution_of-amount.result c.weight_to-weight.result c.weight_to-weight.ensures.value (sym c.if-is_due.ensures.value)
-    (g.T.Tariff.lawful c.args.sheet.now) c.whole_weight-whole.ensures.most c.contribution_of-amount.ensures.most
+    turn_part c.loop-item.invariant c.loop-member.invariant blank (omega arith) c.contribution-amount.result c.weight_to-weight.result c.weight_to-weight.ensures.value (sym c.if-is_due.ensures.value)
+    (g.T.Tariff.lawful c.args.sheet.now) c.whole_weight-whole.ensures.most c.contribution-amount.ensures.most
 
 place_in : (g : given.Over) (c : Then-is_due g) → c.loop-member.next < length c.args.strip.now
 place_in g c =
-    let p = credit_place c.loop-member.invariant blank (omega arith) c.contribution_of-amount.result c.weight_to-weight.result c.contribution_of-amount.ensures.value c.weight_to-weight.ensures.value
+    let p = credit_place c.loop-member.invariant blank (omega arith) c.contribution-amount.result c.weight_to-weight.result c.contribution-amount.ensures.value c.weight_to-weight.ensures.value
     (sym c.if-is_due.ensures.value) in
-    let r = object_room c.loop-object.invariant nothing c.loop-object-test.true in
-    let l = ap length (credits_are (g.T.Tariff.meaning c.args.sheet.now) (addition_in c.args.increase) c.whole_weight-whole.result c.args.register.now c.args.roll.now c.whole_weight-whole.ensures.value) in
+    let r = object_room c.loop-item.invariant nothing c.loop-item-test.true in
+    let l = ap length (credits_are (g.T.Tariff.meaning c.args.sheet.now) (addition_in c.args.increase) c.whole_weight-whole.result c.args.objects.items.now c.args.roll.now c.whole_weight-whole.ensures.value) in
     omega (arith, p, r, l, c.requires.room)
 
 pub invariant_of-rounded : goal.invariant_of-rounded
 invariant_of-rounded g c = record {
   most = omega (arith, product_in g (goal.at.invariant_of-rounded g c).Then-is_due);
-  some = turn_whole c.loop-object.invariant c.loop-member.invariant blank (omega arith) c.contribution_of-amount.result c.weight_to-weight.result c.weight_to-weight.ensures.value (sym c.if-is_due.ensures.value);
+  some = turn_whole c.loop-item.invariant c.loop-member.invariant blank (omega arith) c.contribution-amount.result c.weight_to-weight.result c.weight_to-weight.ensures.value (sym c.if-is_due.ensures.value);
   small = omega (arith, c.whole_weight-whole.ensures.most);
 }
 
@@ -73,11 +62,11 @@ bounds-strip-next g c = omega (arith, place_in g (goal.at.bounds-strip-next g c)
 
 pub overflow_add-member : goal.overflow_add-member
 overflow_add-member g c =
-    let b = turn_balance c.loop-object.invariant c.loop-member.invariant blank (omega arith) in
+    let b = turn_balance c.loop-item.invariant c.loop-member.invariant blank (omega arith) in
     omega (arith, b, part_in g (goal.at.overflow_add-member g c).Then-is_due, c.rounded-part.ensures.value)
 
 pub overflow_add-credited : goal.overflow_add-credited
-overflow_add-credited g c = omega (arith, c.loop-member.invariant.most, c.loop-object.invariant.sum_most, part_in g (goal.at.overflow_add-credited g c).Then-is_due, c.rounded-part.ensures.value)
+overflow_add-credited g c = omega (arith, c.loop-member.invariant.most, c.loop-item.invariant.sum_most, part_in g (goal.at.overflow_add-credited g c).Then-is_due, c.rounded-part.ensures.value)
 
 pub overflow_add-next : goal.overflow_add-next
 overflow_add-next g c = omega (arith, place_in g (goal.at.overflow_add-next g c).Then-is_due)
@@ -87,22 +76,22 @@ loop-member-preserved g c =
     elim c.if-is_due.branch [
       | then-is_due w ↦
           let due = sym w.if-is_due.ensures.value in
-          let p = turn_part c.loop-object.invariant c.loop-member.invariant blank (omega arith) c.contribution_of-amount.result c.weight_to-weight.result c.weight_to-weight.ensures.value due
-          (g.T.Tariff.lawful c.args.sheet.now) c.whole_weight-whole.ensures.most c.contribution_of-amount.ensures.most in
+          let p = turn_part c.loop-item.invariant c.loop-member.invariant blank (omega arith) c.contribution-amount.result c.weight_to-weight.result c.weight_to-weight.ensures.value due
+          (g.T.Tariff.lawful c.args.sheet.now) c.whole_weight-whole.ensures.most c.contribution-amount.ensures.most in
           rw (w.roll-is, w.strip-is, w.credited-is, w.next-is)
-          (inner_yes c.loop-member.invariant blank (omega arith) c.contribution_of-amount.result c.weight_to-weight.result c.contribution_of-amount.ensures.value c.weight_to-weight.ensures.value due
+          (inner_yes c.loop-member.invariant blank (omega arith) c.contribution-amount.result c.weight_to-weight.result c.contribution-amount.ensures.value c.weight_to-weight.ensures.value due
           w.rounded-part.result w.rounded-part.ensures.value (omega (arith, p, w.rounded-part.ensures.value)) w.line_of.result w.line_of.ensures.value)
       | else-is_due w ↦
           rw (w.roll-is, w.strip-is, w.credited-is, w.next-is)
-          (inner_no c.loop-member.invariant blank (omega arith) c.contribution_of-amount.result c.weight_to-weight.result c.contribution_of-amount.ensures.value c.weight_to-weight.ensures.value
+          (inner_no c.loop-member.invariant blank (omega arith) c.contribution-amount.result c.weight_to-weight.result c.contribution-amount.ensures.value c.weight_to-weight.ensures.value
           (sym w.if-is_due.ensures.value))
     ]
 
-pub loop-object-preserved : goal.loop-object-preserved
-loop-object-preserved g c =
+pub loop-item-preserved : goal.loop-item-preserved
+loop-item-preserved g c =
     let t = inner_done c.loop-member.invariant (omega arith) (omega arith) in
-    outer_next c.loop-object.invariant nothing c.loop-object-test.true (g.T.Tariff.lawful c.args.sheet.now) c.whole_weight-whole.ensures.most (omega arith)
-    c.contribution_of-amount.result c.contribution_of-amount.ensures.value c.contribution_of-amount.ensures.most _ _ _ _ t (omega (arith, c.loop-member.invariant.most))
+    outer_next c.loop-item.invariant nothing c.loop-item-test.true (g.T.Tariff.lawful c.args.sheet.now) c.whole_weight-whole.ensures.most (omega arith)
+    c.contribution-amount.result c.contribution-amount.ensures.value c.contribution-amount.ensures.most _ _ _ _ t (omega (arith, c.loop-member.invariant.most))
 
 pub returns : goal.returns
 returns g c =
@@ -110,22 +99,22 @@ returns g c =
     let a = addition_in c.args.increase in
     let whole = c.whole_weight-whole.result in
     let is = c.whole_weight-whole.ensures.value in
-    let e = credits_are m a whole c.args.register.now c.args.roll.now is in
-    let all = outer_done c.loop-object.invariant c.loop-object-test.false (omega (arith, ap length e, c.requires.room)) in
+    let e = credits_are m a whole c.args.objects.items.now c.args.roll.now is in
+    let all = outer_done c.loop-item.invariant c.loop-item-test.false (omega (arith, ap length e, c.requires.room)) in
     record {
       contributed = all.3;
       credited = all.4 ∙ ap sums e;
-      unshared = unshared_is m a whole c.args.register.now c.args.roll.now is _ _ all.3 c.unshared_of.ensures.value;
+      unshared = unshared_is m a whole c.args.objects.items.now c.args.roll.now is _ _ all.3 c.unshared_of.ensures.value;
       number = all.0 ∙ ap length e;
       strip = all.1 ∙ ap (λ ls. written ls c.args.strip.now) e;
-      roll = all.2 ∙ entries_are m a whole c.args.register.now c.args.roll.now is;
+      roll = all.2 ∙ entries_are m a whole c.args.objects.items.now c.args.roll.now is;
       most =
-          let given = c.loop-object.invariant.given_most in
-          let sum = c.loop-object.invariant.sum_most in
-          let count = lines_counted.credited m a c.args.register.now (members_of c.args.roll.now) in
+          let given = c.loop-item.invariant.given_most in
+          let sum = c.loop-item.invariant.sum_most in
+          let count = lines_counted.credited m a c.args.objects.items.now (members_of c.args.roll.now) in
           let number = all.0 ∙ ap length e in
-          let members = length_each member_of c.args.roll.now in
+          let members = length-map c.args.roll.now member_of in
           let few : length (members_of c.args.roll.now) ≤ 16 = omega (arith, members, c.requires.operators) in
-          let product : length (members_of c.args.roll.now) * length c.args.register.now ≤ 16 * 1024 = mul-le-mul few c.requires.objects in
-          (omega (arith, given, c.requires.objects), omega (arith, sum, c.requires.objects), omega (arith, given, c.unshared_of.ensures.most, c.requires.objects), omega (arith, number, count, product));
+          let product : length (members_of c.args.roll.now) * length c.args.objects.items.now ≤ 16 * 1024 = mul-le-mul few c.args.objects.few in
+          (omega (arith, given, c.args.objects.few), omega (arith, sum, c.args.objects.few), omega (arith, given, c.unshared_of.ensures.most, c.args.objects.few), omega (arith, number, count, product));
     }

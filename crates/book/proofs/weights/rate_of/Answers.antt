@@ -1,11 +1,11 @@
-use Rattle.std.proofs.Common.{arith}
-use Rattle.book.proofs.Weighing.{total_more, total_none}
+use Rattle.std.proofs.Common.{rules, ◌≡◌, sum, ◌∙◌}
+use Rattle.std.proofs.iter.runs.Sources.{sums}
+use Rattle.book.proofs.Totals.{sum_is_total}
 use Rattle.book.proofs.weights.rate_of.Goals as goal
 
-pub loop-count-preserved : goal.loop-count-preserved
-loop-count-preserved c =
-    let e = total_more (λ t. t) c.args.tranches.now c.loop-count.count-index 0 (omega arith) in (omega arith, omega arith)
+pub sum-requires-clause-fits : goal.sum-requires-clause-fits
+sum-requires-clause-fits c = search (rules, sums)
 
 pub returns : goal.returns
 returns c =
-    let e = total_none (λ t. t) c.args.tranches.now c.loop-count.count-index (omega arith) in record { value = omega arith }
+    let is : c.sum.result ≡ sum c.args.tranches.now = search rules in record { value = is ∙ sum_is_total c.args.tranches.now }

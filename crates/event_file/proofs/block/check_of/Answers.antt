@@ -1,16 +1,9 @@
-use Rattle.std.proofs.Common.{take, ap, ◌∙◌, arith}
-use Rattle.std.proofs.lemmas.List.{take_all}
-use Rattle.event_file.specs.Blocks.{check_of}
-use Rattle.event_file.proofs.Remainders.{check_more, check_small}
+use Rattle.std.proofs.Common.{◌≡◌, fold, rules, ◌∙◌}
+use Rattle.std.proofs.iter.runs.Made.{chains}
+use Rattle.event_file.proofs.Remainders.{rest_of, with_byte}
 use Rattle.event_file.proofs.block.check_of.Goals as goal
 
-pub with_byte-rest-requires : goal.with_byte-rest-requires
-with_byte-rest-requires c = check_small (take c.loop-byte.byte-index c.args.bytes.now) c.loop-byte.rest c.loop-byte.invariant
-
-pub loop-byte-preserved : goal.loop-byte-preserved
-loop-byte-preserved c =
-    c.with_byte-rest.ensures.value
-    ∙ check_more c.args.bytes.now c.loop-byte.byte-index c.loop-byte.rest (omega arith) c.loop-byte.invariant
-
 pub returns : goal.returns
-returns c = record { value = c.loop-byte.invariant ∙ ap check_of (take_all c.loop-byte.byte-index c.args.bytes.now (omega arith)) }
+returns c =
+    let turns : c.fold.result ≡ fold with_byte 0 c.args.bytes.now = search (rules, chains) in
+    record { value = turns ∙ rest_of c.args.bytes.now 0 }

@@ -1,23 +1,40 @@
-use Rattle.std.proofs.Common.{arith, rules}
-use Rattle.std.proofs.lemmas.Bool.Decides.{nat_tests}
+use Rattle.std.proofs.Common.{◌≡◌, get_or, arith, rules}
+use Rattle.event_file.specs.Entries.{letter_byte}
 use Rattle.event_file.proofs.Exact.{only_its_bytes}
-use Rattle.event_file.proofs.ReadingBack.{reads_back}
+use Rattle.event_file.proofs.Letters.{told_event, told_refused}
 use Rattle.event_file.proofs.entry.read_entry.Goals as goal
 
-pub returns-in_default : goal.returns-in_default
-returns-in_default c = record { answer = search rules; back = reads_back; exact = only_its_bytes }
+pub returns-in_default-clause-exact : goal.returns-in_default-clause-exact
+returns-in_default-clause-exact c = only_its_bytes
 
-pub returns-in_err-fields-in-E : goal.returns-in_err-fields-in-E
-returns-in_err-fields-in-E c = record { answer = search rules; back = reads_back; exact = only_its_bytes }
+pub returns-in_err-try_from-in_default-from-clause-exact : goal.returns-in_err-try_from-in_default-from-clause-exact
+returns-in_err-try_from-in_default-from-clause-exact c = only_its_bytes
 
-pub returns-in-0 : goal.returns-in-0
-returns-in-0 c = record { answer = search rules; back = reads_back; exact = only_its_bytes }
+pub returns-in_err-event-in_default-from-clause-exact : goal.returns-in_err-event-in_default-from-clause-exact
+returns-in_err-event-in_default-from-clause-exact c = only_its_bytes
 
-pub returns-in-0-2 : goal.returns-in-0-2
-returns-in-0-2 c = record { answer = search rules; back = reads_back; exact = only_its_bytes }
+pub returns-in-0-clause-exact : goal.returns-in-0-clause-exact
+returns-in-0-clause-exact c = only_its_bytes
 
-pub returns-in_ok-fields-in-E : goal.returns-in_ok-fields-in-E
-returns-in_ok-fields-in-E c = record { answer = search rules; back = reads_back; exact = only_its_bytes }
+pub returns-in-0-2-clause-exact : goal.returns-in-0-2-clause-exact
+returns-in-0-2-clause-exact c = only_its_bytes
 
-pub returns-in_default-from : goal.returns-in_default-from
-returns-in_default-from c = record { answer = grind (arith, nat_tests); back = reads_back; exact = only_its_bytes }
+pub returns-in_ok-event-in_default-from-clause-exact : goal.returns-in_ok-event-in_default-from-clause-exact
+returns-in_ok-event-in_default-from-clause-exact c = only_its_bytes
+
+pub returns-in_err-event-in_default-from-clause-answer : goal.returns-in_err-event-in_default-from-clause-answer
+returns-in_err-event-in_default-from-clause-answer c =
+    let bs = c.args.bytes.now in
+    let l = c.in_ok-try_from-in_default-from.field-0 in
+    let first : letter_byte l ≡ get_or bs 0 0 = search rules in
+    let x = c.in_err-event-in_default-from.field-0.0 in
+    let told = told_refused bs l (omega arith) first c.args.after_blank x c.in_err-event-in_default-from.ensures.answer in
+    search rules
+
+pub returns-in_ok-event-in_default-from-clause-answer : goal.returns-in_ok-event-in_default-from-clause-answer
+returns-in_ok-event-in_default-from-clause-answer c =
+    let bs = c.args.bytes.now in
+    let l = c.in_ok-try_from-in_default-from.field-0 in
+    let first : letter_byte l ≡ get_or bs 0 0 = search rules in
+    let h = c.in_ok-event-in_default-from.ensures.answer in
+    told_event bs l (omega arith) first c.args.after_blank _ h.0 h.1

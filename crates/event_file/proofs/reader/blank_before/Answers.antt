@@ -1,20 +1,13 @@
-use Rattle.std.proofs.Common.{◌≡◌, ℕ, false, sym, ap, ◌∙◌, subst, arith}
+use Rattle.std.proofs.Common.{ℕ, rules, refl, arith}
+use Rattle.std.proofs.lemmas.Iterator.{YieldsList-from_range}
+use Rattle.std.proofs.lemmas.Iterator.Search.{any_from_yields_List}
+use borrow.Author.Tests.{tests}
+use Rattle.event_file.specs.Blocks.{entry_of}
 use Rattle.event_file.specs.Entries.{is_blank}
-use Rattle.event_file.specs.Reading.{blank_before}
-use Rattle.event_file.proofs.Blanks.{blank_stays, no_blank_more}
 use Rattle.event_file.proofs.reader.blank_before.Goals as goal
-
-pub returns-then-is_blank : goal.returns-then-is_blank
-returns-then-is_blank c =
-    let here = sym (ap is_blank c.entry_at.ensures.value) ∙ sym c.if-is_blank.ensures.value in
-    record { value = sym (blank_stays c.args.block.now c.loop-earlier.earlier c.args.number (omega arith) here) }
-
-pub loop-earlier-preserved : goal.loop-earlier-preserved
-loop-earlier-preserved c =
-    let here = sym (ap is_blank c.entry_at.ensures.value) ∙ sym c.if-is_blank.ensures.value in
-    no_blank_more c.args.block.now c.loop-earlier.earlier here c.loop-earlier.invariant
 
 pub returns : goal.returns
 returns c =
-    let last : c.loop-earlier.earlier ≡ c.args.number = omega arith in
-    record { value = sym (subst (λ (n : ℕ). blank_before c.args.block.now n ≡ false) last c.loop-earlier.invariant) }
+    record {
+      value = any_from_yields_List (λ (i : ℕ). is_blank (entry_of c.args.block.now i)) _ _ c.any.result c.any.ensures.ran (YieldsList-from_range 0 c.args.place c.args.place refl (omega arith)) (λ x b q k. search (rules, tests));
+    }

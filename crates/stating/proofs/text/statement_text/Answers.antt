@@ -1,23 +1,21 @@
-use Rattle.std.proofs.Common.{◌≡◌, take, string_bytes, ◌++◌, ap, ◌∙◌}
-use native.Mathlib.Nat.{sub-zero}
+use Rattle.std.proofs.Common.{◌≡◌, Some, take, string_bytes, ap, ◌∙◌, map}
 use Rattle.std.proofs.lemmas.Result.{IfOk-weaker}
-use Rattle.std.proofs.lemmas.List.{take_min}
 use Rattle.money.specs.Signs.{signed_text}
-use Rattle.book.specs.Lists.{each, joined}
 use Rattle.run.specs.Steps.{shown_notice}
 use Rattle.run.specs.Texts.{notice_text}
-use Rattle.stating.specs.Statements.{account_text, line, statement_text}
-use Rattle.stating.proofs.Lines.{joined_each}
+use Rattle.stating.specs.Lines.{lines_shown}
+use Rattle.stating.specs.Statements.{account_text, line, statement_text, totals_text}
+use Rattle.stating.proofs.Lines.{accounts_shown, notices_shown, three_parts}
 use Rattle.stating.proofs.text.statement_text.Goals as goal
 
 pub returns : goal.returns
 returns c =
     let report = c.args.report.now in
-    let notices = c.in_ok-notices.ensures.value ∙ ap (λ ns. joined (λ n. line (notice_text (shown_notice n))) ns) c.as_slice.ensures.value ∙ joined_each (λ n. line (notice_text n)) shown_notice report.notices.items in
-    let accounts = c.in_ok-accounts.ensures.value ∙ ap (joined (λ e. line (account_text e))) (ap (λ n. take n c.args.roll.now) (sub-zero c.min-counted.result ∙ c.min-counted.ensures) ∙ take_min report.figures.operators c.args.roll.now) in
-    let totals = ap line c.in_ok-totals.ensures.value in
+    let held = signed_text report.held.negative report.held.amount.micros in
+    let members = take report.figures.operators c.args.roll.now in
+    let notices = ap (lines_shown (λ n. Some (notice_text (shown_notice n)))) c.as_slice.ensures.value ∙ notices_shown report.notices.items in
+    let accounts = ap (lines_shown (λ a. Some (account_text a))) (c.as_slice-2.ensures.value ∙ c.in_ok-members.ensures.value) ∙ accounts_shown members in
     record {
-      value = IfOk-weaker c.format.result _
-          (λ s. string_bytes s ≡ statement_text (each shown_notice report.notices.items) (take report.figures.operators c.args.roll.now) report.figures.totals (signed_text report.held.negative report.held.amount.micros))
-          (λ s is. is ∙ (λ k. notices k ++ (accounts k ++ totals k))) c.format.ensures.ok;
+      value = IfOk-weaker c.format.result _ (λ s. string_bytes s ≡ statement_text (map shown_notice report.notices.items) members report.figures.totals held)
+          (λ s is. three_parts _ _ _ _ (line (totals_text report.figures.totals held)) (string_bytes s) notices accounts is) c.format.ensures.ok;
     }

@@ -24,23 +24,17 @@ adds g c =
     let members = counted_members c.args.self.figures (tables c.args.roll.now c.args.register.now) in
     c.increase_of-increase.ensures.value ∙ ap (λ n. addition n c.args.event members) c.year_index-index.ensures.value
 
-pub bill_counted-lines-requires : goal.bill_counted-lines-requires
-bill_counted-lines-requires g c =
-    let m = g.T.Tariff.meaning c.args.sheet.now in
-    let a = able g (goal.at.bill_counted-lines-requires g c).In-Ok in
-    let is = adds g (goal.at.bill_counted-lines-requires g c).After-increase_of-increase in
-    record {
-      long = a.tables_in.register_long;
-      few = omega (arith, ap (λ x. x.tranches) is, a.few);
-      real = rw (ap (λ x. x.date) is) a.real;
-      sound = a.tables_in.objects_sound;
-      room = room_for m c.args.self.figures c.args.self.launch_date (tables c.args.roll.now c.args.register.now) (length c.args.strip.now) c.args.event _ is a.room;
-    }
+pub increase_of-increase-requires-clause-index : goal.increase_of-increase-requires-clause-index
+increase_of-increase-requires-clause-index g c =
+    let a = able g (goal.at.increase_of-increase-requires-clause-index g c).In-Ok in
+    omega (arith, a.in_time, c.year_index-index.ensures.value)
 
-pub invariant_of-zone : goal.invariant_of-zone
-invariant_of-zone g c =
-    let a = able g (goal.at.invariant_of-zone g c).In-Ok in
-    record { few_operators = c.args.self.few_operators; few_objects = c.args.self.few_objects; in_time = a.in_time }
+pub bill-lines-requires-clause-room : goal.bill-lines-requires-clause-room
+bill-lines-requires-clause-room g c =
+    let m = g.T.Tariff.meaning c.args.sheet.now in
+    let a = able g (goal.at.bill-lines-requires-clause-room g c).In-Ok in
+    let is = adds g (goal.at.bill-lines-requires-clause-room g c).After-increase_of-increase in
+    room_for m c.args.self.figures c.args.self.launch_date (tables c.args.roll.now c.args.register.now) (length c.args.strip.now) c.args.event _ is a.room
 
 pub returns-in-Ok : goal.returns-in-Ok
 returns-in-Ok g c =
@@ -53,8 +47,8 @@ returns-in-Ok g c =
     let is = adds g (goal.at.returns-in-Ok g c).After-increase_of-increase in
     let accepted = carried (first (billing_checks m f d t places v)) tt _ (λ _. billing_effect m f d t v) (turned m f d t places v _ c.check_billing.ensures.answer ∙ c.in-Ok.is) in
     record {
-      answer = ap Ok (billed_is m f d t places v _ c.args.strip.now _ _ is c.bill_counted-lines.ensures.number c.bill_counted-lines.ensures.strip) ∙ accepted;
-      strip = written_is m f d t places v _ c.args.strip.now _ is c.bill_counted-lines.ensures.strip ∙ ap (strip_after c.args.strip.now) accepted;
+      answer = ap Ok (billed_is m f d t places v _ c.args.strip.now _ _ is c.bill-lines.ensures.number c.bill-lines.ensures.strip) ∙ accepted;
+      strip = written_is m f d t places v _ c.args.strip.now _ is c.bill-lines.ensures.strip ∙ ap (strip_after c.args.strip.now) accepted;
       kept = tt;
     }
 

@@ -16,13 +16,14 @@ able g c =
     installable m c.args.self.figures c.args.self.launch_date t (length c.args.strip.now) c.args.object _
     (turned m c.args.self.figures c.args.self.launch_date t (length c.args.strip.now) c.args.object _ c.check_installation.ensures.answer ∙ c.in-Ok.is)
 
-pub charge_counted-lines-requires : goal.charge_counted-lines-requires
-charge_counted-lines-requires g c =
-    let a = able g (goal.at.charge_counted-lines-requires g c).In-Ok in
-    record { long = a.tables_in.roll_long; object = a.object_sound; sound = a.tables_in.entries_sound; room = a.room }
+pub invariant_of-charge : goal.invariant_of-charge
+invariant_of-charge g c = record { sound = (able g (goal.at.invariant_of-charge g c).In-Ok).object_sound }
 
-pub bounds-register-objects : goal.bounds-register-objects
-bounds-register-objects g c = let a = able g (goal.at.bounds-register-objects g c).In-Ok in omega (arith, a.space)
+pub charge-lines-requires : goal.charge-lines-requires
+charge-lines-requires g c = record { room = (able g (goal.at.charge-lines-requires g c).In-Ok).room }
+
+pub bounds-register-figures : goal.bounds-register-figures
+bounds-register-figures g c = let a = able g (goal.at.bounds-register-figures g c).In-Ok in omega (arith, a.space)
 
 pub invariant_of-zone : goal.invariant_of-zone
 invariant_of-zone g c = let a = able g (goal.at.invariant_of-zone g c).In-Ok in record { few_operators = c.args.self.few_operators; few_objects = omega (arith, a.fewer) }
@@ -38,8 +39,8 @@ returns-in-Ok g c =
     let a = able g (goal.at.returns-in-Ok g c).In-Ok in
     let accepted = carried (first (installation_checks m f d t places o)) tt _ (λ _. installation_effect m f d t o) (turned m f d t places o _ c.check_installation.ensures.answer ∙ c.in-Ok.is) in
     record {
-      answer = ap Ok (installed_is m f d t places o a.space c.args.strip.now _ _ _ c.charge_counted-lines.ensures.number c.charge_counted-lines.ensures.strip refl) ∙ accepted;
-      strip = c.charge_counted-lines.ensures.strip ∙ ap (strip_after c.args.strip.now) accepted;
+      answer = ap Ok (installed_is m f d t places o a.space c.args.strip.now _ _ _ c.charge-lines.ensures.number c.charge-lines.ensures.strip refl) ∙ accepted;
+      strip = c.charge-lines.ensures.strip ∙ ap (strip_after c.args.strip.now) accepted;
       kept = tt;
     }
 

@@ -1,21 +1,91 @@
-use Rattle.std.proofs.Common.{length, refl}
-use Rattle.book.specs.Calls.{share_out}
-use Rattle.book.specs.Answers.{settling}
+use Rattle.std.proofs.Common.{◌≡◌, length, Ok, refl, ap, ◌∙◌}
+use Rattle.refusal.specs.Checks.{first}
+use Rattle.refusal.proofs.First.{carried, still_refused}
+use Rattle.book.specs.Members.{addition}
+use Rattle.book.specs.Zone.{strip_after, counted_roll, counted_members}
+use Rattle.book.specs.Answers.{added, settling_checks, settling_effect, settling}
+use Rattle.book.specs.Increases.{addition_in}
 use Rattle.book.specs.Passing.{tables}
 use Rattle.book.specs.Promises.{levied_on}
+use Rattle.book.specs.Calls.{share_out}
+use Rattle.book.proofs.Joining.{room_of}
 use Rattle.book.proofs.Living.{lives_on}
+use Rattle.book.proofs.Afterwards.{entered_blind}
+use Rattle.book.proofs.Settled.{Settleable, settleable, settled_is, written_is, room_for, few_entered, turned}
 use Rattle.book.proofs.levy.OpenLevy.share_out.Goals as goal
+use Rattle.book.proofs.levy.OpenLevy.share_out.Goals.{In-Ok, After-increase_of-increase}
+use Rattle.book.proofs.levy.OpenLevy.share_out.Given as given
 
-pub returns : goal.returns
-returns g c =
+able : (g : given.Over) (c : In-Ok g) → Settleable (g.T.Tariff.meaning c.args.sheet.now) c.args.self.figures c.args.self.launch_date (tables c.args.roll.now c.args.register.now) (length c.args.strip.now) c.args.self.event
+able g c =
     let m = g.T.Tariff.meaning c.args.sheet.now in
-    let law = g.T.Tariff.lawful c.args.sheet.now in
+    let t = tables c.args.roll.now c.args.register.now in
+    let levy = c.args.self in
+    settleable m levy.figures levy.launch_date t (length c.args.strip.now) levy.event _ levy.few_operators
+    (turned m levy.figures levy.launch_date t (length c.args.strip.now) levy.event _ c.check_share_out.ensures.answer ∙ c.in-Ok.is)
+
+-- the code's increase is what the event adds
+adds : (g : given.Over) (c : After-increase_of-increase g) → addition_in c.increase_of-increase.result ≡ added c.args.self.figures c.args.self.launch_date (tables c.args.roll.now c.args.register.now) c.args.self.event
+adds g c =
+    let members = counted_members c.args.self.figures (tables c.args.roll.now c.args.register.now) in
+    c.increase_of-increase.ensures.value ∙ ap (λ n. addition n c.args.self.event members) c.index-index.ensures.value
+
+pub settle-operators-requires-clause-place : goal.settle-operators-requires-clause-place
+settle-operators-requires-clause-place g c =
+    let a = able g (goal.at.settle-operators-requires-clause-place g c).In-Ok in
+    let is = adds g (goal.at.settle-operators-requires-clause-place g c).After-increase_of-increase in
+    room_of _ _ (counted_roll c.args.self.figures (tables c.args.roll.now c.args.register.now)) _ is a.fits.1
+
+pub settle-operators-requires-clause-room : goal.settle-operators-requires-clause-room
+settle-operators-requires-clause-room g c =
+    let levy = c.args.self in
+    let a = able g (goal.at.settle-operators-requires-clause-room g c).In-Ok in
+    let is = adds g (goal.at.settle-operators-requires-clause-room g c).After-increase_of-increase in
+    room_for (g.T.Tariff.meaning c.args.sheet.now) levy.figures levy.launch_date (tables c.args.roll.now c.args.register.now) (length c.args.strip.now) levy.event _ is a.room
+
+pub invariant_of-zone : goal.invariant_of-zone
+invariant_of-zone g c =
+    let m = g.T.Tariff.meaning c.args.sheet.now in
     let levy = c.args.self in
     let t = tables c.args.roll.now c.args.register.now in
-    let places = length c.args.strip.now in
+    let a = able g (goal.at.invariant_of-zone g c).In-Ok in
+    let is = adds g (goal.at.invariant_of-zone g c).After-increase_of-increase in
     record {
-      answer = c.settled.ensures.answer;
-      strip = c.settled.ensures.strip;
-      kept = c.settled.ensures.kept;
-      life = lives_on m law (levied_on levy t) places share_out (settling m levy.figures levy.launch_date t places levy.event) _ refl c.settled.ensures.answer;
+      few_operators = few_entered m levy.figures levy.launch_date t (length c.args.strip.now) levy.event _ _ is a.fits.0 c.settle-operators.ensures.number (entered_blind _ (addition_in c.increase_of-increase.result) (counted_roll levy.figures t));
+      few_objects = levy.few_objects;
+    }
+
+pub returns-in-Ok : goal.returns-in-Ok
+returns-in-Ok g c =
+    let m = g.T.Tariff.meaning c.args.sheet.now in
+    let f = c.args.self.figures in
+    let d = c.args.self.launch_date in
+    let t = tables c.args.roll.now c.args.register.now in
+    let places = length c.args.strip.now in
+    let v = c.args.self.event in
+    let is = adds g (goal.at.returns-in-Ok g c).After-increase_of-increase in
+    let accepted = carried (first (settling_checks m f d t places v)) tt _ (λ _. settling_effect m f d t v) (turned m f d t places v _ c.check_share_out.ensures.answer ∙ c.in-Ok.is) in
+    let done = c.settle-operators.ensures in
+    let answer = ap Ok (settled_is m f d t places v _ _ _ _ c.args.strip.now _ is done.contributed done.credited done.unshared done.lines done.number done.roll done.strip) ∙ accepted in
+    record {
+      answer = answer;
+      strip = written_is m f d t places v _ c.args.strip.now _ is done.strip ∙ ap (strip_after c.args.strip.now) accepted;
+      kept = tt;
+      life = lives_on m (g.T.Tariff.lawful c.args.sheet.now) (levied_on c.args.self t) places share_out (settling m f d t places v) _ refl answer;
+    }
+
+pub returns-in-Err : goal.returns-in-Err
+returns-in-Err g c =
+    let m = g.T.Tariff.meaning c.args.sheet.now in
+    let f = c.args.self.figures in
+    let d = c.args.self.launch_date in
+    let t = tables c.args.roll.now c.args.register.now in
+    let places = length c.args.strip.now in
+    let v = c.args.self.event in
+    let refused = still_refused (first (settling_checks m f d t places v)) tt (settling_effect m f d t v) _ (turned m f d t places v _ c.check_share_out.ensures.answer ∙ c.in-Err.is) in
+    record {
+      answer = refused;
+      strip = ap (strip_after c.args.strip.now) refused;
+      kept = (refl, refl);
+      life = lives_on m (g.T.Tariff.lawful c.args.sheet.now) (levied_on c.args.self t) places share_out (settling m f d t places v) _ refl refused;
     }

@@ -1,16 +1,32 @@
-use Rattle.std.proofs.Common.{refl}
-use Rattle.book.specs.Calls.{launch}
-use Rattle.book.specs.Answers.{launching}
+use Rattle.std.proofs.Common.{[], ◌∷◌, sym, refl, ◌∙◌}
+use Rattle.refusal.specs.Checks.{first}
+use Rattle.refusal.proofs.First.{carried, still_refused, in_turn_is}
+use Rattle.book.specs.Answers.{launching_checks, launching_effect, launching}
+use Rattle.book.specs.Refusals.{tables_check, date_checks}
 use Rattle.book.specs.Passing.{tables}
 use Rattle.book.specs.Promises.{prepared}
+use Rattle.book.specs.Calls.{launch}
 use Rattle.book.proofs.Living.{lives_on}
 use Rattle.book.proofs.prepared.PreparedZone.launch.Goals as goal
 
-pub returns : goal.returns
-returns c =
+pub returns-in-Ok : goal.returns-in-Ok
+returns-in-Ok c =
+    let f = c.args.self.figures in
     let t = tables c.args.roll.now c.args.register.now in
+    let answer = carried (first (launching_checks f t c.args.date)) tt _ (λ _. launching_effect f t c.args.date) (sym (in_turn_is (tables_check f t ∷ []) (date_checks f c.args.date ∷ [])) ∙ sym c.check_launch.ensures.answer ∙ c.in-Ok.is) in
     record {
-      answer = c.launched.ensures.answer;
-      kept = c.launched.ensures.kept;
-      life = λ m law. lives_on m law (prepared c.args.self t) 0 (launch c.args.date) (launching c.args.self.figures t c.args.date) _ refl c.launched.ensures.answer;
+      answer = answer;
+      kept = tt;
+      life = λ m law. lives_on m law (prepared c.args.self t) 0 (launch c.args.date) (launching f t c.args.date) _ refl answer;
+    }
+
+pub returns-in-Err : goal.returns-in-Err
+returns-in-Err c =
+    let f = c.args.self.figures in
+    let t = tables c.args.roll.now c.args.register.now in
+    let answer = still_refused (first (launching_checks f t c.args.date)) tt (launching_effect f t c.args.date) _ (sym (in_turn_is (tables_check f t ∷ []) (date_checks f c.args.date ∷ [])) ∙ sym c.check_launch.ensures.answer ∙ c.in-Err.is) in
+    record {
+      answer = answer;
+      kept = refl;
+      life = λ m law. lives_on m law (prepared c.args.self t) 0 (launch c.args.date) (launching f t c.args.date) _ refl answer;
     }

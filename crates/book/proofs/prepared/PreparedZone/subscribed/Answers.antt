@@ -1,4 +1,4 @@
-use Rattle.std.proofs.Common.{[], ◌∷◌, Ok, sym, refl, ap, ◌∙◌, arith}
+use Rattle.std.proofs.Common.{[], ◌∷◌, Ok, sym, refl, ap, ◌∙◌}
 use Rattle.refusal.specs.Checks.{first}
 use Rattle.refusal.proofs.First.{carried, still_refused, in_turn_is}
 use Rattle.book.specs.Zone.{counted_roll}
@@ -17,8 +17,6 @@ enter-operators-requires c =
     let s = subscribable f t v _ c.args.self.few_operators (sym (in_turn_is (tables_check f t ∷ []) (date_checks f v.date ∷ roll_checks f t v ∷ [])) ∙ sym c.check_subscription.ensures.answer ∙ c.in-Ok.is) in
     let is = c.increase_of-increase.ensures.value in
     record {
-      few = omega (arith, ap (λ a. a.tranches) is, s.few);
-      index = omega (arith, ap (λ a. a.index) is);
       counted = s.tables_in.roll_long;
       rates = rates_sound (counted_roll f t) s.tables_in.entries_sound;
       room = room_of _ _ (counted_roll f t) _ is s.fits.1;

@@ -1,0 +1,80 @@
+// What an object costs, and what it contributes.
+ghost use Rattle.std.specs.Prelude.{◌≡◌, ◌≤◌, T as Holds};
+ghost use Rattle.calendar.specs.Days.{is_date};
+ghost use Rattle.book.specs.Billing.{price_at, coefficient_at, unit_price, unit_contribution};
+ghost use Rattle.book.specs.Increases.{addition_in};
+ghost use Rattle.book.specs.Sharing.{object_contribution};
+
+use crate::counted::Object;
+use crate::increase::Increase;
+use tariff::kinds::Coefficient;
+use tariff::quotient::Quotient;
+use tariff::tariff::Tariff;
+
+// Hundredths in a whole.
+const WHOLE: u32 = 100;
+
+impl<'a> Object<'a> {
+    // The price per tranche and dwelling.
+    pub(crate) fn price<T: Tariff>(self, sheet: &T) -> u64
+        ensures value { result ≡ price_at (T.meaning sheet.now) self.entry.item.now.kind self.entry.item.now.installed }
+        ensures most { result ≤ 500000000 }
+    {
+        u64::from(
+            sheet
+                .price(self.item.kind, self.item.installed)
+                .unwrap_or(0),
+        )
+    }
+
+    // What a dwelling costs for the tranches of an increase, on its day.
+    pub(crate) fn unit_price<T: Tariff>(self, sheet: &T, increase: Increase) -> u64
+        requires real { Holds (is_date increase.date) }
+        ensures value { result ≡ unit_price (T.meaning sheet.now) self.entry.item.now.kind self.entry.item.now.installed increase.date increase.tranches }
+        ensures most { result ≤ 40000000000 }
+    {
+        let price = self.price(sheet) * u64::from(increase.tranches);
+        if self.item.installed >= increase.date {
+            return price;
+        }
+        let coefficient = coefficient_at(sheet, self.item.installed, increase.date);
+        sheet.rounded(Quotient {
+            numerator: price * u64::from(coefficient.numerator),
+            denominator: coefficient.denominator,
+        })
+    }
+
+    // What of it goes to the earlier operators.
+    pub(crate) fn unit_contribution<T: Tariff>(self, sheet: &T, increase: Increase) -> u64
+        ensures value { result ≡ unit_contribution (T.meaning sheet.now) self.entry.item.now.kind self.entry.item.now.installed increase.date increase.tranches }
+        ensures most { result ≤ 10000000000 }
+    {
+        if self.item.installed >= increase.date {
+            return 0;
+        }
+        let price = self.price(sheet) * u64::from(increase.tranches);
+        sheet.rounded(Quotient {
+            numerator: price * u64::from(sheet.contribution()),
+            denominator: WHOLE,
+        })
+    }
+
+    // What the object contributes: its unit contribution times its dwellings.
+    pub(crate) fn contribution<T: Tariff>(self, sheet: &T, increase: Increase) -> u64
+        ensures value { result ≡ object_contribution (T.meaning sheet.now) (addition_in increase) self.entry.item.now }
+        ensures most { result ≤ 100000000000000 }
+    {
+        self.unit_contribution(sheet, increase) * u64::from(self.item.dwellings)
+    }
+}
+
+// The coefficient of two days.
+fn coefficient_at<T: Tariff>(sheet: &T, installed: u32, date: u32) -> Coefficient
+    ensures value { result ≡ coefficient_at (T.meaning sheet.now) installed date }
+{
+    let none = Coefficient {
+        numerator: 0,
+        denominator: 1,
+    };
+    sheet.coefficient(installed, date).unwrap_or(none)
+}

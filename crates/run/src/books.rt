@@ -1,0 +1,77 @@
+// The books of a run: its zone with its ledger.
+ghost use Rattle.std.specs.Prelude.{◌≡◌};
+ghost use Rattle.event_file.specs.Entries.{shown_event};
+ghost use Rattle.book.specs.Life.{empty_state};
+ghost use Rattle.book.specs.Passing.{tables};
+ghost use Rattle.book.specs.Runs.{lived};
+ghost use Rattle.run.specs.Taking.{call_of, steps_for, refusal_to};
+ghost use Rattle.run.specs.Zones.{state_of, answered_as};
+
+use crate::ledger::{Ledger, STRIP_PLACES};
+use crate::run::{REGISTER_PLACES, ROLL_PLACES};
+use crate::zone::Zone;
+use book::entries::{RegisterEntry, RollEntry};
+use book::lines::Line;
+use book::prepared::PreparedZone;
+use book::refused::Refused;
+use book::zone::Figures;
+use event_file::event::Event;
+use refusal::Refusal;
+use std::mem;
+use tariff::tariff::Tariff;
+
+// The zone of a run between two events, and the ledger that its calls are lent.
+#[derive(Drop)]
+pub(crate) struct Books {
+    pub(crate) zone: Zone,
+    pub(crate) ledger: Ledger,
+}
+
+impl Books {
+    // An empty zone, whatever the tables hold.
+    pub(crate) fn new(
+        roll: [RollEntry; ROLL_PLACES],
+        register: [RegisterEntry; REGISTER_PLACES],
+    ) -> Books
+        ensures state { state_of result ≡ empty_state (tables roll register) }
+    {
+        Books {
+            zone: Zone::Prepared(PreparedZone::new()),
+            ledger: Ledger {
+                roll,
+                register,
+                strip: [Line::BLANK; STRIP_PLACES],
+            },
+        }
+    }
+
+    // The zone's plain numbers.
+    pub(crate) fn figures(&self) -> Figures
+        ensures value { result ≡ (state_of self.now).figures }
+    {
+        match &self.zone {
+            Zone::Prepared(zone) => zone.figures(),
+            Zone::Launched(zone) => zone.figures(),
+        }
+    }
+
+    // Takes an event, with its levy shared out, or refuses it and stays as it was.
+    pub(crate) fn take<T: Tariff>(&mut self, sheet: &T, event: Event<'_>) -> Result<(), Refusal>
+        ensures answer { result ≡ answered_as (refusal_to (T.meaning sheet.now) (state_of self.old) (call_of (shown_event event.entry))) }
+        ensures after { state_of self.new ≡ lived (T.meaning sheet.now) (state_of self.old) (steps_for (call_of (shown_event event.entry))) }
+    {
+        // An empty zone stands in its place while the zone is moved through the call.
+        let before = mem::replace(&mut self.zone, Zone::Prepared(PreparedZone::new()));
+        match self.ledger.taken(before, sheet, event) {
+            Ok(after) => {
+                self.zone = after;
+                Ok(())
+            }
+            Err(back) => {
+                let Refused { refusal, kept } = back;
+                self.zone = kept;
+                Err(refusal)
+            }
+        }
+    }
+}
