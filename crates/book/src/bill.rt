@@ -31,7 +31,7 @@ pub(crate) fn line_of(nature: Nature, operator: u32, object: u32, unit: u64, qua
 }
 
 // Writes the lines of a commitment or raise for every object, and gives their number. An object has one line or two, so
-// that the place of the next line is kept beside the strip: an iterator over its places would have to be asked for each.
+// that the place of its line is not the object's own, and is counted beside the strip.
 pub(crate) fn bill<T: Tariff>(
     sheet: &T,
     increase: Increase,

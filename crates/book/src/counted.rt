@@ -14,7 +14,8 @@ pub(crate) struct Object<'a> {
     ghost sound: { one_of (object_faults item.now) ≡ false },
 }
 
-// The objects that a zone counts.
+// The objects that a zone counts. They and the operators are two types: one over the kind of an entry could not be copied,
+// since no derive is to be had over the ghost fields of a generic type, and the two share no method.
 #[derive(Clone, Copy)]
 pub(crate) struct Objects<'a> {
     pub(crate) items: &'a [RegisterEntry],

@@ -10,7 +10,8 @@ use crate::entries::RollEntry;
 use crate::increase::Increase;
 use crate::limits::YEARS;
 
-// Adds the tranches to their operator, or places a newcomer after the counted entries, and gives the new count.
+// Adds the tranches to their operator, or places a newcomer after the counted entries, and gives the new count. The count
+// stands beside the roll, since a newcomer's place is the one after it.
 pub(crate) fn enter(increase: Increase, roll: &mut [RollEntry], counted: usize) -> usize
     requires counted { counted ≤ length roll.old }
     requires rates { list_any (λ e. bad_rate (rate_of e.tranches)) (take counted roll.old) ≡ false }

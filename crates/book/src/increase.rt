@@ -2,7 +2,8 @@
 ghost use Rattle.std.specs.Prelude.{◌≤◌};
 ghost use Rattle.book.specs.Limits.{most_index, most_tranches};
 
-// The tranches that an operator adds to its rate, on a day that lies in a year index of the zone.
+// The tranches that an operator adds to its rate, on a day that lies in a year index of the zone. The sheet stays beside it
+// in what is billed and shared: an increase is the same on every sheet.
 #[derive(Clone, Copy)]
 pub(crate) struct Increase {
     pub(crate) operator: u32,

@@ -1,7 +1,7 @@
 // The calls of a launched zone. The sheet, the tables and the strip are lent one by one, so that a call's signature says
 // which of them it can change; a struct of all four would lend them all to change. A commitment and a raise differ in one
-// word, and stay two calls: the rules name them so, each takes the numbers that the rules list for it, and a raise alone
-// has the cuts law on its contract.
+// word, and stay two calls, as do an opening and a cabling: the rules name them so, each takes the numbers that the rules
+// list for it, and a raise alone has the cuts law on its contract.
 ghost use Rattle.std.specs.Prelude.{◌≡◌, length, IfErr};
 ghost use Rattle.book.specs.Zone.{strip_after};
 ghost use Rattle.book.specs.Answers.{installation, billing};
@@ -101,7 +101,7 @@ impl LaunchedZone {
         self.installed(sheet, roll, register, strip, entry)
     }
 
-    // A site is cabled, by a third party or not.
+    // A site is cabled, by a third party or not: the rules ask it as a yes or no, and so does the call.
     pub fn cabling<T: Tariff>(
         self,
         sheet: &T,

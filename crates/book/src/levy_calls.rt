@@ -34,47 +34,40 @@ impl OpenLevy {
         ensures life { LivesOn (T.meaning sheet.now) (levied_on self (tables roll.old register.now)) call_share_out (written_answer launched_on (tables roll.new register.now) strip.new result) }
     {
         let index = self.index();
-        match self.check_share_out(sheet, Tables { roll, register }, strip.len()) {
-            Ok(()) => {
-                let OpenLevy {
-                    figures,
-                    launch_date,
-                    event,
-                } = self;
-                let increase = increase_of(&event, index, &roll[..figures.operators]);
-                let objects = Objects {
-                    items: &register[..figures.objects],
-                };
-                let (moved, operators) = settle(
-                    sheet,
-                    increase,
-                    objects,
-                    roll,
-                    figures.operators,
-                    strip,
-                );
-                let zone = LaunchedZone {
-                    figures: Figures {
-                        operators,
-                        totals: Totals {
-                            contributed: figures.totals.contributed + moved.contributed,
-                            credited: figures.totals.credited + moved.credited,
-                            unshared: figures.totals.unshared + moved.unshared,
-                            credit_lines: figures.totals.credit_lines + moved.credit_lines,
-                        },
-                        ..figures
-                    },
-                    launch_date,
-                };
-                Ok(Written {
-                    zone,
-                    lines: moved.credit_lines as usize,
-                })
-            }
-            Err(refusal) => Err(Refused {
+        let lent = Tables { roll, register };
+        if let Err(refusal) = self.check_share_out(sheet, lent, strip.len()) {
+            return Err(Refused {
                 refusal,
                 kept: self,
-            }),
+            });
         }
+        let OpenLevy {
+            figures,
+            launch_date,
+            event,
+        } = self;
+        let increase = increase_of(&event, index, &roll[..figures.operators]);
+        let objects = Objects {
+            items: &register[..figures.objects],
+        };
+        let (moved, operators) = settle(sheet, increase, objects, roll, figures.operators, strip);
+        let totals = Totals {
+            contributed: figures.totals.contributed + moved.contributed,
+            credited: figures.totals.credited + moved.credited,
+            unshared: figures.totals.unshared + moved.unshared,
+            credit_lines: figures.totals.credit_lines + moved.credit_lines,
+        };
+        let zone = LaunchedZone {
+            figures: Figures {
+                operators,
+                totals,
+                ..figures
+            },
+            launch_date,
+        };
+        Ok(Written {
+            zone,
+            lines: moved.credit_lines as usize,
+        })
     }
 }

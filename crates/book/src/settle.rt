@@ -18,7 +18,8 @@ use crate::share::share_out;
 use crate::zone::Totals;
 use tariff::tariff::Tariff;
 
-// Shares out among the counted entries, then enters the tranches; gives what was moved and the new count.
+// Shares out among the counted entries, then enters the tranches; gives what was moved and the new count. The count stands
+// beside the roll, as in entering.
 pub(crate) fn settle<T: Tariff>(
     sheet: &T,
     increase: Increase,

@@ -13,7 +13,7 @@ use crate::zone::Figures;
 use calendar::is_date;
 use refusal::Refusal;
 
-// The tables that a call is lent.
+// The tables that a call is lent. A zone's figures stay beside them: they are the zone's own.
 #[derive(Clone, Copy)]
 pub(crate) struct Tables<'a> {
     pub(crate) roll: &'a [RollEntry],

@@ -9,7 +9,8 @@ pub struct Totals {
     pub credit_lines: u64,
 }
 
-// The zone's plain numbers: its last date if it has one, the entries that it counts, and its totals.
+// The zone's plain numbers: its last date if it has one, the entries that it counts from the start of the tables that its
+// calls are lent, and its totals.
 #[derive(Clone, Copy)]
 pub struct Figures {
     pub last: Option<u32>,

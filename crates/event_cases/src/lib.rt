@@ -174,23 +174,22 @@ L\x01\x33\xc6\x3f\x00\x00\x00\x00\x00\x00\x00\x00\x00three           ";
     }
 
     // A change of some bits of one byte is found by the check.
-    fn changed_byte(rt: &impl Abort, block: &mut [u8; 512], offset: usize)
+    fn changed_byte(rt: &impl Abort, whole: &[u8; 512], offset: usize, byte: u8)
         requires { offset < 512 }
     {
-        let byte = block[offset];
+        let mut block = *whole;
         for bits in [1, 16, 128, 255] {
             block[offset] = byte ^ bits;
-            assert!(rt; check_block(block).is_err());
+            assert!(rt; check_block(&block).is_err());
         }
-        block[offset] = byte;
     }
 
     // A change of any one byte is found by the check.
     fn changed_bytes(rt: &impl Abort) {
-        let mut block = sample(0, b'E', 64, 212);
+        let block = sample(0, b'E', 64, 212);
         assert!(rt; check_block(&block).is_ok());
-        for offset in 0..512 {
-            changed_byte(rt, &mut block, offset);
+        for (offset, byte) in block.iter().enumerate() {
+            changed_byte(rt, &block, offset, *byte);
         }
         assert!(rt; check_block(&block).is_ok());
     }

@@ -26,7 +26,7 @@ pub enum Event<'a> {
         dwellings: u32,
         label: &'a [u8],
     },
-    // A site is cabled, by a third party or not.
+    // A site is cabled, by a third party or not: a yes or no, as the form byte is.
     Cabling {
         date: u32,
         object: u32,

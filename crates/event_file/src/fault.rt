@@ -13,7 +13,7 @@ pub enum Place {
 }
 
 impl Place {
-    // The number of the block, or 0 for a whole file.
+    // The number of the block, or 0 for a whole file, as a statement prints it.
     pub const fn block(self) -> usize
         ensures value { result ≡ block_number self }
     {
@@ -23,7 +23,7 @@ impl Place {
         }
     }
 
-    // The number of the entry in its block, or 0 for a whole file or block.
+    // The number of the entry in its block, or 0 for a whole file or block, as a statement prints it.
     pub const fn entry(self) -> usize
         ensures value { result ≡ entry_number self }
     {

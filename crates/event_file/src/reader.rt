@@ -125,7 +125,8 @@ impl<'a> Reader<'a> {
     }
 }
 
-// The entries and the refusals that are left, one after another.
+// The entries and the refusals that are left, one after another. `next_entry` stays beside it, for readers that go on by
+// `?`, and promises more.
 impl<'a> Iterator for Reader<'a> {
     type Item = Result<Entry<'a>, Fault>;
 

@@ -1,5 +1,5 @@
 // Every entry of the link tables, at both edges of its row, ab initio and ex post: tools/quote_model.py writes the orders
-// and works out the replies.
+// and works out the replies. A program of its own, since its cases are its input and its output.
 #![tactic(auto)]
 
 use std::io;

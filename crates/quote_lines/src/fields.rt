@@ -43,6 +43,8 @@ fn fills(last: &[u8], beyond: &[u8]) -> bool
     !last.is_empty() && beyond.is_empty()
 }
 
+// A number, and an amount, or why the word is none: two lines that each name a reader with its own reason, where one for
+// both would be passed the two.
 fn number_named(word: &[u8]) -> Result<u32, Unreadable>
     ensures value { result ≡ number_named word.now }
 {

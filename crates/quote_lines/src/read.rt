@@ -55,7 +55,7 @@ fn is_comment(first: &[u8]) -> bool
     matches!(first, [] | [b'#', ..])
 }
 
-// What the words after a keyword say.
+// What the words after a keyword say. Each keyword reads other words, so that its arm is all there is to pass on.
 fn said_after(announced: Keyword, rest: &[u8]) -> Result<Line, Unreadable>
     ensures value { result ≡ said_after announced (fields_in rest.now) }
 {

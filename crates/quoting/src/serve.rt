@@ -83,7 +83,8 @@ impl Desk {
         }
     }
 
-    // The price of an order on the sheet chosen, made of the series read so far.
+    // The price of an order on the sheet chosen, made of the series read so far. The sheets are three for good, and each is
+    // filled with other rows: a match says so plainly.
     fn quotation(&self, request: &Request) -> Result<Quotation, Refusal>
         ensures value { result ≡ quotation_on (shown self.now) request.now }
     {

@@ -6,7 +6,7 @@ use Rattle.event_file.specs.Blocks.{block_check, block_of, file_blocks}
 use Rattle.event_file.specs.Entries.{Told, event, blank}
 use Rattle.event_file.specs.declared.fault.Place.TheVariants as place
 use Rattle.event_file.specs.Reading.{check_at, checked, end, entry_told, places, placed, refused_block, step_after, step_at}
-use Rattle.run.specs.Telling.{Telling, told_fault, fault_at, entry_tells, entries_tell, only_fault, blocks_tell, opened_tells, file_tells}
+use Rattle.run.specs.Telling.{Telling, told_fault, entry_tells, entries_tell, only_fault, blocks_tell, opened_tells, file_tells}
 use Rattle.run.specs.Steps.{tells_at}
 
 -- from a place of a block on, in a file of some blocks: the rest of the block and the blocks after it

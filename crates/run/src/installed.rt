@@ -8,7 +8,8 @@ use book::launched::LaunchedZone;
 use book::refused::Refused;
 use tariff::tariff::Tariff;
 
-// The two differ in the call alone: passed in as a closure, it would take as many lines as each has.
+// The two differ in the call alone: passed in as a closure, it would take as many lines as each has. A cabling is by a third
+// party or not, a yes or no as in the call.
 impl Ledger {
     pub(crate) fn opening<T: Tariff>(
         &mut self,
@@ -31,13 +32,22 @@ impl Ledger {
         sheet: &T,
         date: u32,
         object: u32,
-        third: bool,
+        third_party: bool,
         dwellings: u32,
     ) -> Result<LaunchedZone, Refused<LaunchedZone>>
-        ensures answer { StaysLaunched (T.meaning sheet.now) (launched_on zone (tables_of self.old)) (call_cabling date object third dwellings) (tables_of self.new) result }
+        ensures answer { StaysLaunched (T.meaning sheet.now) (launched_on zone (tables_of self.old)) (call_cabling date object third_party dwellings) (tables_of self.new) result }
     {
         let (roll, register, strip) = (&self.roll, &mut self.register, &mut self.strip);
-        let done = zone.cabling(sheet, roll, register, strip, date, object, third, dwellings)?;
+        let done = zone.cabling(
+            sheet,
+            roll,
+            register,
+            strip,
+            date,
+            object,
+            third_party,
+            dwellings,
+        )?;
         Ok(done.zone)
     }
 }

@@ -23,7 +23,7 @@ impl<'a, V> Series<'a, V> {
 
 impl<'a, V: Limited> Series<'a, V> {
     // Takes the rows if they make a series; otherwise refuses and stays as it was. A place is filled, and no series
-    // returned, since the checker has no form yet for an enum that holds a reference and an invariant.
+    // returned, so that what the place holds outlives a refusal.
     pub fn fill(&mut self, rows: &'a [Dated<V>]) -> Result<(), Refusal>
         ensures answer { MatchResult result (λ _. sound V.Limited.fits rows.now ≡ true) (λ e. (e ≡ BadSheet) × (sound V.Limited.fits rows.now ≡ false)) }
         ensures value { OnOk result (rows_of self.new ≡ rows.now) }

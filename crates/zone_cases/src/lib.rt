@@ -20,6 +20,8 @@ use tariff::tariff::Tariff;
 // A share-out of 16 operators and 1,024 objects has no more lines.
 const MOST_LINES: usize = 16_384;
 
+// The call of a change. Each of the two calls has an answer of its own, and one function for both lets one proof show that
+// a share-out after either is never refused.
 fn billed<T: Tariff>(
     zone: LaunchedZone,
     sheet: &T,
@@ -75,19 +77,19 @@ fn shared<T: Tariff>(
 mod tests {
     use crate::shared;
     use book::entries::{RegisterEntry, RollEntry};
+    use book::launched::LaunchedZone;
     use book::lines::Line;
     use book::prepared::PreparedZone;
+    use book::refused::Refused;
     use book::zone::Change;
-    use sheet_parts::given::{Prices, Terms};
+    use refusal::Refusal;
+    use sheet_parts::given::{Prices, Terms, YEAR_INDICES};
     use sheets::flat::FlatSheet;
     use std::test::Fail;
-    use tariff::kinds::Kind;
 
-    // Operator 1 takes 15% and operator 2 takes 5% before a launch on 31 March 2012; operator 2 takes 10% more in 2013,
-    // operator 3 takes 5% in 2015. Quotas: 15/20 and 5/20 of 207.30 euros, then 1500/2820 and 1320/2820 of 103.65.
-    #[test]
-    fn quotas_of_falling_weights(rt: HostRuntime) -> Result<(), Fail> {
-        let mut weights = [0; 41];
+    // A contribution of 15 hundredths, shared by weights that fall over the first five years.
+    fn falling_sheet() -> Result<FlatSheet, Refusal> {
+        let mut weights = [0; YEAR_INDICES];
         weights[0] = 100;
         weights[1] = 91;
         weights[2] = 82;
@@ -106,54 +108,91 @@ mod tests {
                 weights,
             },
         )?;
+        Ok(sheet)
+    }
+
+    // Operator 1 takes 15% and operator 2 takes 5% before a launch on 31 March 2012.
+    fn launched(
+        roll: &mut [RollEntry],
+        register: &[RegisterEntry],
+    ) -> Result<LaunchedZone, Refusal> {
+        PreparedZone::new()
+            .commitment(roll, register, 20120301, 1, 3)
+            .map_err(|back| back.refusal)?
+            .commitment(roll, register, 20120301, 2, 1)
+            .map_err(|back| back.refusal)?
+            .launch(roll, register, 20120331)
+            .map_err(|back| back.refusal)
+    }
+
+    // Operator 2 takes 10% more in 2013, operator 3 takes 5% in 2015. Quotas: 15/20 and 5/20 of 207.30 euros, then
+    // 1500/2820 and 1320/2820 of 103.65.
+    #[test]
+    fn quotas_of_falling_weights(rt: HostRuntime) -> Result<(), Fail> {
+        let sheet = falling_sheet()?;
         let mut roll = [RollEntry::BLANK; 4];
         let mut register = [RegisterEntry::BLANK; 2];
         let mut strip = [Line::BLANK; 16_384];
-        let zone = PreparedZone::new();
-        let zone = zone
-            .commitment(&mut roll, &register, 20120301, 1, 3)
-            .map_err(|back| back.refusal)?;
-        let zone = zone
-            .commitment(&mut roll, &register, 20120301, 2, 1)
-            .map_err(|back| back.refusal)?;
-        let zone = zone
-            .launch(&roll, &register, 20120331)
-            .map_err(|back| back.refusal)?;
+        let zone = launched(&mut roll, &register)?;
         let opened = zone
             .opening(&sheet, &roll, &mut register, &mut strip, 20120401, 7, 100)
             .map_err(|back| back.refusal)?;
         assert_eq!(rt; strip[0].unit, 20_730_000);
         assert_eq!(rt; strip[1].total, 691_000_000);
+        let zone = opened.zone;
+        let raise = Change::Raise;
         let raised = shared(
-            opened.zone,
-            &sheet,
-            &mut roll,
-            &register,
-            &mut strip,
-            Change::Raise,
-            20130501,
-            2,
-            3,
+            zone, &sheet, &mut roll, &register, &mut strip, raise, 20130501, 2, 3,
         );
         let zone = raised.map_err(|back| back.refusal)?;
         assert_eq!(rt; roll[0].balance, 155_475_000);
         assert_eq!(rt; roll[1].balance, 51_825_000);
+        let commitment = Change::Commitment;
         let committed = shared(
-            zone,
-            &sheet,
-            &mut roll,
-            &register,
-            &mut strip,
-            Change::Commitment,
-            20150601,
-            3,
-            1,
+            zone, &sheet, &mut roll, &register, &mut strip, commitment, 20150601, 3, 1,
         );
         let zone = committed.map_err(|back| back.refusal)?;
         assert_eq!(rt; roll[0].balance, 210_607_979);
         assert_eq!(rt; roll[1].balance, 100_342_021);
         assert_eq!(rt; roll[2].balance, 0);
         assert_eq!(rt; zone.figures().totals.contributed, 310_950_000);
+        Ok(())
+    }
+
+    // The number of a refusal, and the zone that it hands back.
+    fn refused<Z: Drop>(answer: Result<Z, Refused<LaunchedZone>>) -> Option<(u8, LaunchedZone)> {
+        answer.err().map(|back| (back.refusal.number(), back.kept))
+    }
+
+    // A strip too short (16), a day before the last one (3), no dwelling (12): each hands the zone back, which then opens
+    // the same PM.
+    #[test]
+    fn refused_calls_change_nothing(rt: HostRuntime) -> Result<(), Fail> {
+        let sheet = falling_sheet()?;
+        let mut roll = [RollEntry::BLANK; 4];
+        let mut register = [RegisterEntry::BLANK; 2];
+        let mut strip = [Line::BLANK; 2];
+        let mut zone = launched(&mut roll, &register)?;
+        for (places, date, dwellings, expected) in [
+            (1, 20120401, 100, 16),
+            (2, 20120330, 100, 3),
+            (2, 20120401, 0, 12),
+        ] {
+            let lent = &mut strip[..places];
+            let answer = zone.opening(&sheet, &roll, &mut register, lent, date, 7, dwellings);
+            let Some((number, kept)) = refused(answer) else {
+                panic!(&rt; "accepted")
+            };
+            assert_eq!(rt; number, expected);
+            assert_eq!(rt; register[0].object, 0);
+            assert_eq!(rt; strip[0].total, 0);
+            zone = kept;
+        }
+        let opened = zone
+            .opening(&sheet, &roll, &mut register, &mut strip, 20120401, 7, 100)
+            .map_err(|back| back.refusal)?;
+        assert_eq!(rt; opened.lines, 2);
+        assert_eq!(rt; register[0].object, 7);
         Ok(())
     }
 }

@@ -1,7 +1,7 @@
 use Rattle.std.proofs.Common.{◌≡◌, get_or, arith, rules}
 use Rattle.event_file.specs.Entries.{letter_byte}
 use Rattle.event_file.proofs.Exact.{only_its_bytes}
-use Rattle.event_file.proofs.Letters.{told_event, told_refused}
+use Rattle.event_file.proofs.Letters.{told_refused}
 use Rattle.event_file.proofs.entry.read_entry.Goals as goal
 
 pub returns-in_default-clause-exact : goal.returns-in_default-clause-exact
@@ -30,11 +30,3 @@ returns-in_err-event-in_default-from-clause-answer c =
     let x = c.in_err-event-in_default-from.field-0.0 in
     let told = told_refused bs l (omega arith) first c.args.after_blank x c.in_err-event-in_default-from.ensures.answer in
     search rules
-
-pub returns-in_ok-event-in_default-from-clause-answer : goal.returns-in_ok-event-in_default-from-clause-answer
-returns-in_ok-event-in_default-from-clause-answer c =
-    let bs = c.args.bytes.now in
-    let l = c.in_ok-try_from-in_default-from.field-0 in
-    let first : letter_byte l ≡ get_or bs 0 0 = search rules in
-    let h = c.in_ok-event-in_default-from.ensures.answer in
-    told_event bs l (omega arith) first c.args.after_blank _ h.0 h.1

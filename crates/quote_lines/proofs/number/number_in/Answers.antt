@@ -1,9 +1,9 @@
-use Rattle.std.proofs.Common.{◌≡◌, ◌<◌, true, length, sym, ap, ◌∙◌, Some, arith, rules}
+use Rattle.std.proofs.Common.{◌≡◌, ◌<◌, true, length, sym, ◌∙◌, arith, rules}
 use Rattle.std.proofs.lemmas.List.{at_drop_all}
 use Rattle.std.specs.Char.{digit_value}
 use Rattle.calendar.specs.Days.{within}
-use Rattle.quote_lines.specs.Words.{number, read_on, digit}
-use Rattle.quote_lines.proofs.Digits.{read_more, read_none, digit_read, digit_refused, one_to_nine, more_digits, nine_digits, read_whole}
+use Rattle.quote_lines.specs.Words.{number, read_on}
+use Rattle.quote_lines.proofs.Digits.{read_none, digit_refused, one_to_nine, nine_digits, read_whole}
 use Rattle.quote_lines.proofs.number.number_in.Goals as goal
 
 pub returns-then-not-contains : goal.returns-then-not-contains
@@ -32,13 +32,6 @@ overflow_add-value c =
     let few = nine_digits c.loop-byte.value c.loop-byte.byte-index c.loop-byte.invariant.0 (omega arith) in
     let nine = c.in_ok-value.ensures.value in
     omega arith
-
-pub loop-byte-preserved : goal.loop-byte-preserved
-loop-byte-preserved c =
-    let nine = c.in_ok-value.ensures.value in
-    let is : digit c.from.result ≡ Some c.in_ok-value.field-0 = digit_read c.from.result nine.0 ∙ ap Some (sym nine.1) in
-    let more = read_more c.loop-byte.value c.args.word.now c.loop-byte.byte-index (omega arith) c.in_ok-value.field-0 (rw c.from.ensures at is) in
-    (more_digits c.loop-byte.value c.in_ok-value.field-0 c.loop-byte.byte-index c.loop-byte.invariant.0 (omega arith), sym more ∙ c.loop-byte.invariant.1)
 
 pub returns : goal.returns
 returns c =

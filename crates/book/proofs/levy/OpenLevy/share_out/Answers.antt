@@ -13,16 +13,16 @@ use Rattle.book.proofs.Living.{lives_on}
 use Rattle.book.proofs.Afterwards.{entered_blind}
 use Rattle.book.proofs.Settled.{Settleable, settleable, settled_is, written_is, room_for, few_entered, turned}
 use Rattle.book.proofs.levy.OpenLevy.share_out.Goals as goal
-use Rattle.book.proofs.levy.OpenLevy.share_out.Goals.{In-Ok, After-increase_of-increase}
+use Rattle.book.proofs.levy.OpenLevy.share_out.Goals.{In_default, After-increase_of-increase}
 use Rattle.book.proofs.levy.OpenLevy.share_out.Given as given
 
-able : (g : given.Over) (c : In-Ok g) → Settleable (g.T.Tariff.meaning c.args.sheet.now) c.args.self.figures c.args.self.launch_date (tables c.args.roll.now c.args.register.now) (length c.args.strip.now) c.args.self.event
+able : (g : given.Over) (c : In_default g) → Settleable (g.T.Tariff.meaning c.args.sheet.now) c.args.self.figures c.args.self.launch_date (tables c.args.roll.now c.args.register.now) (length c.args.strip.now) c.args.self.event
 able g c =
     let m = g.T.Tariff.meaning c.args.sheet.now in
     let t = tables c.args.roll.now c.args.register.now in
     let levy = c.args.self in
     settleable m levy.figures levy.launch_date t (length c.args.strip.now) levy.event _ levy.few_operators
-    (turned m levy.figures levy.launch_date t (length c.args.strip.now) levy.event _ c.check_share_out.ensures.answer ∙ c.in-Ok.is)
+    (turned m levy.figures levy.launch_date t (length c.args.strip.now) levy.event _ c.check_share_out.ensures.answer ∙ c.in_default.is)
 
 -- the code's increase is what the event adds
 adds : (g : given.Over) (c : After-increase_of-increase g) → addition_in c.increase_of-increase.result ≡ added c.args.self.figures c.args.self.launch_date (tables c.args.roll.now c.args.register.now) c.args.self.event
@@ -32,14 +32,14 @@ adds g c =
 
 pub settle-operators-requires-clause-place : goal.settle-operators-requires-clause-place
 settle-operators-requires-clause-place g c =
-    let a = able g (goal.at.settle-operators-requires-clause-place g c).In-Ok in
+    let a = able g (goal.at.settle-operators-requires-clause-place g c).In_default in
     let is = adds g (goal.at.settle-operators-requires-clause-place g c).After-increase_of-increase in
     room_of _ _ (counted_roll c.args.self.figures (tables c.args.roll.now c.args.register.now)) _ is a.fits.1
 
 pub settle-operators-requires-clause-room : goal.settle-operators-requires-clause-room
 settle-operators-requires-clause-room g c =
     let levy = c.args.self in
-    let a = able g (goal.at.settle-operators-requires-clause-room g c).In-Ok in
+    let a = able g (goal.at.settle-operators-requires-clause-room g c).In_default in
     let is = adds g (goal.at.settle-operators-requires-clause-room g c).After-increase_of-increase in
     room_for (g.T.Tariff.meaning c.args.sheet.now) levy.figures levy.launch_date (tables c.args.roll.now c.args.register.now) (length c.args.strip.now) levy.event _ is a.room
 
@@ -48,23 +48,23 @@ invariant_of-zone g c =
     let m = g.T.Tariff.meaning c.args.sheet.now in
     let levy = c.args.self in
     let t = tables c.args.roll.now c.args.register.now in
-    let a = able g (goal.at.invariant_of-zone g c).In-Ok in
+    let a = able g (goal.at.invariant_of-zone g c).In_default in
     let is = adds g (goal.at.invariant_of-zone g c).After-increase_of-increase in
     record {
       few_operators = few_entered m levy.figures levy.launch_date t (length c.args.strip.now) levy.event _ _ is a.fits.0 c.settle-operators.ensures.number (entered_blind _ (addition_in c.increase_of-increase.result) (counted_roll levy.figures t));
       few_objects = levy.few_objects;
     }
 
-pub returns-in-Ok : goal.returns-in-Ok
-returns-in-Ok g c =
+pub returns : goal.returns
+returns g c =
     let m = g.T.Tariff.meaning c.args.sheet.now in
     let f = c.args.self.figures in
     let d = c.args.self.launch_date in
     let t = tables c.args.roll.now c.args.register.now in
     let places = length c.args.strip.now in
     let v = c.args.self.event in
-    let is = adds g (goal.at.returns-in-Ok g c).After-increase_of-increase in
-    let accepted = carried (first (settling_checks m f d t places v)) tt _ (λ _. settling_effect m f d t v) (turned m f d t places v _ c.check_share_out.ensures.answer ∙ c.in-Ok.is) in
+    let is = adds g (goal.at.returns g c).After-increase_of-increase in
+    let accepted = carried (first (settling_checks m f d t places v)) tt _ (λ _. settling_effect m f d t v) (turned m f d t places v _ c.check_share_out.ensures.answer ∙ c.in_default.is) in
     let done = c.settle-operators.ensures in
     let answer = ap Ok (settled_is m f d t places v _ _ _ _ c.args.strip.now _ is done.contributed done.credited done.unshared done.lines done.number done.roll done.strip) ∙ accepted in
     record {
