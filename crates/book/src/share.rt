@@ -85,8 +85,8 @@ pub(crate) fn share_out<T: Tariff>(
 }
 
 impl<'a> Operators<'a> {
-    // How many credit lines an amount has: one for each operator that weighs something. A loop and no chain, here and in
-    // the sums of this crate: each step asks that its entry is within its limits, which a closure cannot be told.
+    // How many credit lines an amount has: one for each operator that weighs something. A loop and no chain, as
+    // `whole_weight` and `lines_shared` are: a step asks that its entry is within its limits, which no closure is told.
     fn lines_of_amount<T: Tariff>(self, sheet: &T, increase: Increase, amount: u64) -> usize
         ensures number { result ≡ amount_lines (T.meaning sheet.now) increase.index amount (members_of self.entry.items.now) }
         ensures most { result ≤ most_operators }
