@@ -13,12 +13,13 @@ BLANK = bytes(30)
 def entry(letter, date, number, amount, form, label):
     """Thirty bytes: letter, three numbers high byte first, form, and the label filled up with spaces."""
     numbers = b"".join(n.to_bytes(4, "big") for n in (date, number, amount))
-    return letter.encode("ascii") + numbers + bytes([form]) + label.ljust(16).encode("latin-1")
+    return letter.encode("latin-1") + numbers + bytes([form]) + label.ljust(16).encode("latin-1")
 
 
 def block(entries, check_off_by=0):
     """512 bytes: the entries, blanks up to seventeen, and the check, off by a number if it is to be wrong."""
     data = b"".join(entries + [BLANK] * (17 - len(entries)))
+    assert len(data) == 510, "an entry has not 30 bytes"
     check = (int.from_bytes(data, "big") + check_off_by) % 65521
     return data + check.to_bytes(2, "big")
 

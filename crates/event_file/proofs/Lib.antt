@@ -8,3 +8,4 @@ pub mod SameEntries
 pub mod Labels
 pub mod Letters
 pub mod Printing
+pub mod Inputs

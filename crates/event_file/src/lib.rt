@@ -5,5 +5,6 @@ pub mod block;
 pub mod entry;
 pub mod event;
 pub mod fault;
+pub mod input;
 pub mod label;
 pub mod reader;

@@ -1,5 +1,6 @@
 // The statement of an event file: its text, and how it is made for the network.
 #![tactic(auto)]
 
+pub mod network;
 mod shown;
 pub mod text;

@@ -1,0 +1,41 @@
+-- A file that is too long is stated alike, however it goes on.
+use Rattle.std.proofs.Common.{◌≡◌, ℕ, ◌||◌, ◌<◌, ◌/◌, ◌%◌, Bool, true, false, not, eqb, List, [], ◌∷◌, Some, None, Err, Option, IfSome, length, take, refl, sym, ap, ◌∙◌, arith}
+use Rattle.std.proofs.lemmas.Bool.{ltb-true, ltb-false, lt-ltb}
+use Rattle.std.proofs.lemmas.List.{take_all, length-take-le}
+use Rattle.std.proofs.Math.Bool.{or-true}
+use Rattle.std.proofs.Math.Dec.{ltb}
+use Rattle.refusal.specs.Checks.{first, unless, ◌⇒◌}
+use Rattle.refusal.specs.declared.Refusal.TheVariants.{BadFileLength}
+use Rattle.tariff.specs.Meaning.{Meaning}
+use Rattle.event_file.specs.Blocks.{file_blocks}
+use Rattle.book.specs.Life.{empty_state}
+use Rattle.book.specs.Runs.{lived}
+use Rattle.book.specs.Zone.{Tables}
+use Rattle.run.specs.Reports.{notices, steps_told}
+use Rattle.run.specs.Telling.{Telling, file_tells, opened_tells}
+use Rattle.stating.specs.Statements.{statement_at, statement_of}
+
+refused_length : (n : ℕ) → 65536 < n → file_blocks n ≡ Err BadFileLength
+refused_length n long =
+    ap (λ b. unless {A = ℕ} (first ((b ⇒ BadFileLength) ∷ [])) (n / 512)) (ap (λ b. not (eqb (n % 512) 0) || b) (lt-ltb 65536 n long) ∙ or-true (not (eqb (n % 512) 0)))
+
+-- What such a file tells is that it is refused.
+tells_alike : (bs cs : List ℕ) → 65536 < length bs → 65536 < length cs → file_tells bs ≡ file_tells cs
+tells_alike bs cs long longer = ap (opened_tells bs) (refused_length (length bs) long) ∙ ap (opened_tells cs) (sym (refused_length (length cs) longer))
+
+cut_tells : (bs : List ℕ) → file_tells (take 65537 bs) ≡ file_tells bs
+cut_tells bs = go (ltb 65536 (length bs)) refl where
+  go : (b : Bool) → ltb 65536 (length bs) ≡ b → file_tells (take 65537 bs) ≡ file_tells bs
+  go true is =
+      let long = ltb-true 65536 (length bs) is in
+      let cut = length-take-le 65537 bs (omega (arith, long)) in
+      tells_alike (take 65537 bs) bs (omega (arith, cut)) long
+  go false is = ap file_tells (take_all 65537 bs (omega (arith, ltb-false 65536 (length bs) is)))
+
+pub cut_states : (m : Meaning) (t : Tables) (bs : List ℕ) → statement_of m t (take 65537 bs) ≡ statement_of m t bs
+cut_states m t bs = ap (λ (told : List Telling). statement_at (notices m (empty_state t) told) (lived m (empty_state t) (steps_told told))) (cut_tells bs)
+
+-- So the statement of the first bytes of an input is that of all it gives.
+pub stated_from : (m : Meaning) (t : Tables) (input : Option (List ℕ)) (bs text : List ℕ) → IfSome input (λ given. bs ≡ take 65537 given) → text ≡ statement_of m t bs → IfSome input (λ given. text ≡ statement_of m t given)
+stated_from m t None bs text read says = read
+stated_from m t (Some given) bs text read says = says ∙ ap (statement_of m t) read ∙ cut_states m t given

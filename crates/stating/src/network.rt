@@ -1,0 +1,54 @@
+// The statement of an event file for the network: on its own price records, over tables in which no entry counts.
+ghost use Rattle.std.specs.Prelude.{◌≡◌, IfOk, IfSome, string_bytes};
+ghost use Rattle.sheets.specs.DatedSheets.{dated_meaning};
+ghost use Rattle.run.specs.Reports.{RunsAsLife};
+ghost use Rattle.stating.specs.Network.{network_sheet, empty_tables};
+ghost use Rattle.stating.specs.Statements.{statement_of};
+
+use crate::text::statement_text;
+use book::entries::{RegisterEntry, RollEntry};
+use event_file::input::file_bytes;
+use run::run::{REGISTER_PLACES, ROLL_PLACES, run};
+use sheet_parts::given::{Terms, YEAR_INDICES};
+use sheets::dated::DatedSheet;
+use sheets::network::network_records;
+use std::alloc::{AllocError, Global};
+use std::io;
+use std::io::Read;
+
+// A contribution of 15 hundredths, and tranches that weigh alike.
+const TERMS: Terms = Terms {
+    contribution: 15,
+    weights: [100; YEAR_INDICES],
+};
+
+// The network's own records make a sheet, so that filling it is never refused.
+fn network_sheet() -> DatedSheet<'static>
+    ensures meaning { dated_meaning result ≡ network_sheet }
+{
+    let mut sheet = DatedSheet::empty();
+    match sheet.fill(network_records(), TERMS) {
+        Ok(()) => sheet,
+        Err(_refusal) => unreachable(),
+    }
+}
+
+// Runs a file through an empty zone and states what came of it.
+pub fn network_statement(heap: Global, bytes: &[u8]) -> Result<String, AllocError>
+    ensures value { IfOk result (λ s. string_bytes s ≡ statement_of network_sheet empty_tables bytes.now) }
+    ensures life { RunsAsLife network_sheet empty_tables bytes.now }
+{
+    let sheet = network_sheet();
+    let mut roll = [RollEntry::BLANK; ROLL_PLACES];
+    let mut register = [RegisterEntry::BLANK; REGISTER_PLACES];
+    let report = run(heap, &sheet, bytes, &mut roll, &mut register)?;
+    statement_text(heap, &report, &roll)
+}
+
+// States the file that an input gives, reading no more of it than one byte past the longest file.
+pub fn statement_from<R: Read + Drop>(heap: Global, input: R) -> io::Result<String>
+    ensures value { IfOk result (λ s. IfSome (R.remaining input) (λ given. string_bytes s ≡ statement_of network_sheet empty_tables given)) }
+{
+    let bytes = file_bytes(heap, input)?;
+    Ok(network_statement(heap, bytes.as_slice())?)
+}
