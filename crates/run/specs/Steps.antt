@@ -21,12 +21,15 @@ abbrev pub shown_notice : Notice → ShownNotice
 shown_notice notice = record { fault = notice.fault; label = notice.label.now }
 
 -- An entry that is taken gives no notice, and neither does the end of the file.
-abbrev pub noticed : Option (Result (Unit {0}) Notice) → List ShownNotice
-noticed None = []
-noticed (Some (Ok taken)) = []
-noticed (Some (Err notice)) = shown_notice notice ∷ []
+abbrev pub noticed : Result (Option (Unit {0})) Notice → List ShownNotice
+noticed (Ok taken) = []
+noticed (Err notice) = shown_notice notice ∷ []
 
 -- From a position p to a position q, unless the file has ended.
-abbrev pub Goes : List ℕ → ℕ → ℕ → Option (Result (Unit {0}) Notice) → Type 0
-Goes bs p q None = step_at bs p ≡ Ok end
-Goes bs p q (Some taken) = (p < q) × (q ≤ places bs)
+abbrev pub Forward : List ℕ → ℕ → ℕ → Type 0
+Forward bs p q = (p < q) × (q ≤ places bs)
+
+abbrev pub Goes : List ℕ → ℕ → ℕ → Result (Option (Unit {0})) Notice → Type 0
+Goes bs p q (Ok None) = step_at bs p ≡ Ok end
+Goes bs p q (Ok (Some taken)) = Forward bs p q
+Goes bs p q (Err notice) = Forward bs p q

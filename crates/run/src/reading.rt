@@ -35,10 +35,11 @@ pub(crate) fn read_file<'a, T: Tariff>(
             return Ok(notices);
         }
     };
-    while let Some(taken) = advance(&mut reader, books, sheet) {
-        if let Err(notice) = taken {
-            notices.push_reserved(notice);
+    loop {
+        match advance(&mut reader, books, sheet) {
+            Ok(Some(())) => {}
+            Ok(None) => return Ok(notices),
+            Err(notice) => notices.push_reserved(notice),
         }
     }
-    Ok(notices)
 }

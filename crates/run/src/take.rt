@@ -1,4 +1,6 @@
 // How a zone takes an event.
+ghost use Rattle.std.specs.Prelude.{◌≡◌};
+ghost use Rattle.refusal.specs.declared.Refusal.TheVariants.{OutOfTurn};
 ghost use Rattle.tariff.specs.Meaning.{Meaning};
 ghost use Rattle.event_file.specs.Entries.{shown_event};
 ghost use Rattle.book.specs.Promises.{prepared, launched_on};
@@ -13,6 +15,17 @@ use book::refused::Refused;
 use event_file::event::Event;
 use refusal::Refusal;
 use tariff::tariff::Tariff;
+
+// A zone that takes no call of a kind is left as it was.
+fn out_of_turn<Z>(zone: Z) -> Refused<Z>
+    ensures refusal { result.refusal ≡ OutOfTurn }
+    ensures kept { result.kept ≡ zone }
+{
+    Refused {
+        refusal: Refusal::OutOfTurn,
+        kept: zone,
+    }
+}
 
 impl Ledger {
     // The zone after an event, or why it refuses it and the zone as it was.
@@ -73,10 +86,7 @@ impl Ledger {
                 let launched = zone.launch(roll, register, date)?;
                 Ok(Zone::Launched(launched))
             }
-            Event::Opening { .. } | Event::Cabling { .. } => Err(Refused {
-                refusal: Refusal::OutOfTurn,
-                kept: zone,
-            }),
+            Event::Opening { .. } | Event::Cabling { .. } => Err(out_of_turn(zone)),
         }
     }
 
@@ -115,10 +125,7 @@ impl Ledger {
                 third_party,
                 ..
             } => self.cabling(zone, sheet, date, object, third_party, dwellings),
-            Event::Launch { .. } => Err(Refused {
-                refusal: Refusal::OutOfTurn,
-                kept: zone,
-            }),
+            Event::Launch { .. } => Err(out_of_turn(zone)),
         }
     }
 }

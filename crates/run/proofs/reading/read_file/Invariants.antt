@@ -5,12 +5,12 @@ use Rattle.run.specs.Zones.{state_of}
 use Rattle.run.proofs.Running.{Sofar}
 use Rattle.run.proofs.reading.read_file.Given as goal
 
-abbrev pub invariant-loop-taken : goal.invariant-loop-taken
-invariant-loop-taken g l = record {
+abbrev pub invariant-loop-notices : goal.invariant-loop-notices
+invariant-loop-notices g l = record {
   same_file : l.reader.bytes.now ≡ l.bytes;
   sofar : Sofar (g.T.Tariff.meaning l.sheet) l.bytes (state_of l.initial.books) l.reader.position (vec_len l.notices) (vec_capacity l.notices) (state_of l.books)
       (map shown_notice (vec_items l.notices));
 }
 
-abbrev pub decreases-loop-taken : goal.decreases-loop-taken
-decreases-loop-taken g l = places l.bytes - l.reader.position
+abbrev pub decreases-loop-notices : goal.decreases-loop-notices
+decreases-loop-notices g l = places l.bytes - l.reader.position
