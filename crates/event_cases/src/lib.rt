@@ -4,6 +4,9 @@
 ghost use Rattle.std.specs.Prelude.{◌<◌};
 
 #[cfg(test)]
+mod inputs;
+
+#[cfg(test)]
 mod tests {
     use event_file::block::check_block;
     use event_file::fault::Fault;

@@ -3,14 +3,10 @@
 
 mod text;
 
-use event_file::block::MOST_BYTES;
+use event_file::input::file_bytes;
 use event_file::reader::Reader;
 use std::io;
-use std::io::Read;
 use text::Line;
-
-// One byte more than the longest file: an input of so many bytes is too long, however it goes on.
-const ROOM: u64 = MOST_BYTES as u64 + 1;
 
 // The lines of a file, to its end or the block that fails its check.
 fn list(rt: &HostRuntime, bytes: &[u8]) -> io::Result<()> {
@@ -29,7 +25,6 @@ fn list(rt: &HostRuntime, bytes: &[u8]) -> io::Result<()> {
 }
 
 fn main(rt: HostRuntime) -> io::Result<()> {
-    let mut bytes = Vec::new(rt.alloc());
-    rt.stdin().take(ROOM).read_to_end(&mut bytes)?;
+    let bytes = file_bytes(rt.alloc(), rt.stdin())?;
     list(&rt, bytes.as_slice())
 }
