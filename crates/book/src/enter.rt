@@ -8,7 +8,7 @@ ghost use Rattle.book.specs.Refusals.{bad_rate};
 
 use crate::entries::RollEntry;
 use crate::increase::Increase;
-use crate::limits::YEARS;
+use tariff::tariff::YEAR_INDICES;
 
 // Adds the tranches to their operator, or places a newcomer after the counted entries, and gives the new count. The count
 // stands beside the roll, since a newcomer's place is the one after it.
@@ -26,7 +26,7 @@ pub(crate) fn enter(increase: Increase, roll: &mut [RollEntry], counted: usize) 
             counted
         }
         None => {
-            let mut tranches = [0; YEARS];
+            let mut tranches = [0; YEAR_INDICES];
             tranches[year] = increase.tranches;
             roll[counted] = RollEntry {
                 operator: increase.operator,

@@ -1,12 +1,12 @@
 // The entries of the two tables that are lent to each call.
-use crate::limits::YEARS;
 use tariff::kinds::Kind;
+use tariff::tariff::YEAR_INDICES;
 
 // An operator on the roll: its number, the tranches that it subscribed in each year index, and what it was credited.
 #[derive(Clone, Copy)]
 pub struct RollEntry {
     pub operator: u32,
-    pub tranches: [u32; YEARS],
+    pub tranches: [u32; YEAR_INDICES],
     pub balance: u64,
 }
 
@@ -23,7 +23,7 @@ impl RollEntry {
     // What a place of a roll holds before an operator is entered there.
     pub const BLANK: RollEntry = RollEntry {
         operator: 0,
-        tranches: [0; YEARS],
+        tranches: [0; YEAR_INDICES],
         balance: 0,
     };
 }

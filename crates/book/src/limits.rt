@@ -2,6 +2,8 @@
 ghost use Rattle.std.specs.Prelude.{◌≡◌};
 ghost use Rattle.book.specs.Limits.{most_operators, most_objects, most_index, years, most_tranches, most_dwellings, most_amount};
 
+use tariff::tariff::YEAR_INDICES;
+
 // Operators that a roll can count.
 pub const MOST_OPERATORS: usize = 16;
 
@@ -10,9 +12,6 @@ pub const MOST_OBJECTS: usize = 1024;
 
 // The last year index of a zone's life; indices start at 0.
 pub const MOST_INDEX: u32 = 40;
-
-// Year indices from 0 to the last.
-pub const YEARS: usize = 41;
 
 // Tranches of one operator; a tranche is a twentieth of the zone.
 pub const MOST_TRANCHES: u32 = 20;
@@ -49,7 +48,7 @@ pub const fn zone_limits() -> Limits
         operators: MOST_OPERATORS,
         objects: MOST_OBJECTS,
         index: MOST_INDEX,
-        years: YEARS,
+        years: YEAR_INDICES,
         tranches: MOST_TRANCHES,
         dwellings: MOST_DWELLINGS,
         amount: MOST_AMOUNT,

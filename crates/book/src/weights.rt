@@ -6,11 +6,10 @@ ghost use Rattle.book.specs.Members.{members_of, rate_of, weight_to, whole_weigh
 use crate::counted::Operators;
 use crate::entries::RollEntry;
 use crate::increase::Increase;
-use crate::limits::YEARS;
-use tariff::tariff::Tariff;
+use tariff::tariff::{Tariff, YEAR_INDICES};
 
 // The tranches of all years together, whatever the array holds.
-pub(crate) fn rate_of(tranches: &[u32; YEARS]) -> u64
+pub(crate) fn rate_of(tranches: &[u32; YEAR_INDICES]) -> u64
     ensures value { result ≡ rate_of tranches.now }
 {
     tranches.iter().map(|count| u64::from(*count)).sum()
@@ -26,7 +25,7 @@ impl RollEntry {
 }
 
 // The tranches by the weight of their years, up to a year index.
-pub(crate) fn weight_to<T: Tariff>(sheet: &T, tranches: &[u32; YEARS], index: u32) -> u64
+pub(crate) fn weight_to<T: Tariff>(sheet: &T, tranches: &[u32; YEAR_INDICES], index: u32) -> u64
     requires index { index ≤ most_index }
     requires rate { rate_of tranches.now ≤ most_tranches }
     ensures value { result ≡ weight_to (T.meaning sheet.now) index tranches.now }

@@ -11,12 +11,12 @@ use quote_lines::line::{Choice, Item, Line, Request};
 use quote_lines::read::line_in;
 use refusal::Refusal;
 use series::{Dated, IndexNumber};
-use sheet_parts::given::{Prices, Terms, YEAR_INDICES};
+use sheet_parts::given::{Prices, Terms};
 use sheets::dated::DatedSheet;
 use sheets::flat::FlatSheet;
 use sheets::indexed::IndexedSheet;
 use std::alloc::{AllocError, Global};
-use tariff::tariff::Tariff;
+use tariff::tariff::{Tariff, YEAR_INDICES};
 
 // The network's first prices per tranche and dwelling, in micro-euros.
 const PRICES: Prices = Prices {

@@ -4,6 +4,7 @@ ghost use Rattle.sheet_parts.specs.Given.{price_of, price_fits, prices_in_limits
 
 use series::Limited;
 use tariff::kinds::Kind;
+use tariff::tariff::YEAR_INDICES;
 
 // The dearest price per tranche and dwelling, in micro-euros.
 const MOST_PRICE: u32 = 500_000_000;
@@ -13,9 +14,6 @@ const WHOLE: u32 = 100;
 
 // What a tranche weighs at most.
 const MOST_WEIGHT: u32 = 200;
-
-// The year indices of a tranche's subscription, 0 to 40.
-pub const YEAR_INDICES: usize = 41;
 
 // The price per tranche and dwelling of each kind, in micro-euros.
 #[derive(Clone, Copy, PartialEq, Eq, Debug)]

@@ -9,12 +9,13 @@ use crate::text::statement_text;
 use book::entries::{RegisterEntry, RollEntry};
 use event_file::input::file_bytes;
 use run::run::{REGISTER_PLACES, ROLL_PLACES, run};
-use sheet_parts::given::{Terms, YEAR_INDICES};
+use sheet_parts::given::Terms;
 use sheets::dated::DatedSheet;
 use sheets::network::network_records;
 use std::alloc::{AllocError, Global};
 use std::io;
 use std::io::Read;
+use tariff::tariff::YEAR_INDICES;
 
 // A contribution of 15 hundredths, and tranches that weigh alike.
 const TERMS: Terms = Terms {

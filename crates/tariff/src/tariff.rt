@@ -5,6 +5,9 @@ ghost use Rattle.tariff.specs.Meaning.{Meaning, Lawful};
 use crate::kinds::{Coefficient, Kind};
 use crate::quotient::Quotient;
 
+// The year indices of a tranche's subscription, 0 to 40.
+pub const YEAR_INDICES: usize = 41;
+
 pub trait Tariff {
     // What a sheet means: all its answers, in one fixed value.
     ghost meaning: { Self → Meaning };

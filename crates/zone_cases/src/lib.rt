@@ -83,9 +83,10 @@ mod tests {
     use book::refused::Refused;
     use book::zone::Change;
     use refusal::Refusal;
-    use sheet_parts::given::{Prices, Terms, YEAR_INDICES};
+    use sheet_parts::given::{Prices, Terms};
     use sheets::flat::FlatSheet;
     use std::test::Fail;
+    use tariff::tariff::YEAR_INDICES;
 
     // A contribution of 15 hundredths, shared by weights that fall over the first five years.
     fn falling_sheet() -> Result<FlatSheet, Refusal> {
