@@ -13,6 +13,8 @@ ROW = [100, 110, 118, 125, 127, 128, 127, 125, 122, 118, 112, 106, 98, 90, 81, 7
 COVERED, CONNECTABLE, THIRD_PARTY = "covered", "connectable", "third-party"
 KINDS = (COVERED, CONNECTABLE, THIRD_PARTY)
 
+MOST_AMOUNT = 4 * 10**18
+
 NETWORK_RECORDS = [
     (20080101, (6_910_000, 18_770_000, 16_200_000)),
     (20211001, (6_939_900, 18_851_218, 16_270_097)),
@@ -199,6 +201,13 @@ class Zone:
 
     # What is asked before anything is done
 
+    def check_tables(self):
+        refuse_if(self.roll_places < len(self.operators), 1)
+        refuse_if(self.register_places < len(self.objects), 1)
+        amounts = [self.contributed, self.credited, self.unshared, self.credit_lines]
+        amounts += [one.balance for one in self.operators]
+        refuse_if(any(amount > MOST_AMOUNT for amount in amounts), 1)
+
     def check_date(self, date):
         refuse_if(not is_date(date), 2)
         refuse_if(self.last is not None and date < self.last, 3)
@@ -232,6 +241,7 @@ class Zone:
         present.years[index] = present.years.get(index, 0) + tranches
 
     def change(self, date, operator, rate, is_raise, strip):
+        self.check_tables()
         self.check_date(date)
         self.check_change(operator, rate, is_raise)
         present = self.known(operator)
@@ -275,12 +285,14 @@ class Zone:
         return self.change(date, operator, rate, True, strip)
 
     def launch(self, date):
+        self.check_tables()
         self.check_date(date)
         self.launched = date
         self.last = date
         return []
 
     def install(self, kind, date, number, dwellings, strip=1024):
+        self.check_tables()
         self.check_date(date)
         refuse_if(number == 0 or any(thing.number == number for thing in self.objects), 11)
         refuse_if(not 1 <= dwellings <= 10_000, 12)
@@ -295,6 +307,7 @@ class Zone:
 
     def share_out(self, strip=1024):
         date, operator, tranches = self.levy
+        self.check_tables()
         self.check_prices()
         index = year_index(self.launched, date)
         weights = {

@@ -1,4 +1,4 @@
--- A levy with room for the longest share-out is never left open.
+-- A levy with room for the longest share-out is never left open, also where a shorter strip was refused before.
 use Rattle.std.proofs.Common.{◌≡◌, ℕ, ◌*◌, ◌≤◌, List, length, take, Ok, Err, sym, ap, ◌∙◌, mul-le-mul, arith}
 use Rattle.std.proofs.lemmas.List.{length-take, length-map}
 use Rattle.refusal.specs.declared.Refusal.{Refusal}
@@ -9,6 +9,9 @@ use Rattle.book.specs.Zone.{Tables, Phase, preparing, launched, levied, Effect, 
 use Rattle.book.specs.Answers.{added, billing, billing_checks, billing_effect, settling}
 use Rattle.book.specs.Grounds.{ShareOutFollows, LinesCounted}
 use Rattle.book.specs.Promises.{levied_on}
+use Rattle.book.specs.Passing.{tables}
+use Rattle.book.specs.declared.entries.RegisterEntry.{RegisterEntry}
+use Rattle.book.specs.declared.entries.RollEntry.{RollEntry}
 use Rattle.book.specs.declared.lines.Line.{Line}
 use Rattle.book.specs.declared.zone.Event.{Event}
 use Rattle.book.specs.declared.launched.LaunchedZone.{LaunchedZone}
@@ -52,3 +55,13 @@ never_refused m zone levy t places room v lines refusal follows counted billed r
     let here = ap is_ok shared in
     let there = ap is_ok (refused ∙ (λ i. settling m f (sym day i) t room (sym event i))) in
     absurd (omega (arith, here, there))
+
+pub never_refused_again : (m : Meaning) (zone : LaunchedZone) (levy back : OpenLevy) (roll left : List RollEntry) (register : List RegisterEntry) (places room : ℕ) (v : Event) (lines : List Line) (refusal : Refusal) →
+    ShareOutFollows StripTooShort → LinesCounted →
+    ◌≡◌ {A = Answer} (Ok (record { state = levied_on levy (tables roll register); lines = lines })) (billing m zone.figures zone.launch_date (tables roll register) places v) →
+    (back ≡ levy) × (left ≡ roll) →
+    ◌≡◌ {A = Answer} (Err refusal) (settling m back.figures back.launch_date (tables left register) room back.event) →
+    16384 ≤ room → ⊥
+never_refused_again m zone levy back roll left register places room v lines refusal follows counted billed kept refused enough =
+    let now = refused ∙ (λ i. settling m (kept.0 i).figures (kept.0 i).launch_date (tables (kept.1 i) register) room (kept.0 i).event) in
+    never_refused m zone levy (tables roll register) places room v lines refusal follows counted billed now enough

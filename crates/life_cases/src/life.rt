@@ -1,0 +1,100 @@
+// A life of a zone, and what its calls are given.
+use crate::instruction::{Call, Choice, Setting};
+use crate::ledger::{Ledger, Outcome, Strips, Zone};
+use refusal::Refusal;
+use series::{Dated, IndexNumber};
+use sheet_parts::given::{Prices, Terms};
+use sheets::dated::DatedSheet;
+use sheets::flat::FlatSheet;
+use sheets::indexed::IndexedSheet;
+use std::alloc::{AllocError, Global};
+use tariff::tariff::YEAR_INDICES;
+
+// The prices that a life begins with, in micro-euros.
+const PRICES: Prices = Prices {
+    covered: 6_910_000,
+    connectable: 18_770_000,
+    third: 16_200_000,
+};
+
+// The terms that a life begins with.
+const TERMS: Terms = Terms {
+    contribution: 15,
+    weights: [100; YEAR_INDICES],
+};
+
+// The sheet is made anew, of what was given, at each call that needs one.
+#[derive(Drop)]
+pub struct Life {
+    pub ledger: Ledger,
+    choice: Choice,
+    prices: Prices,
+    terms: Terms,
+    wages: Vec<Dated<IndexNumber>>,
+    consumer: Vec<Dated<IndexNumber>>,
+    records: Vec<Dated<Prices>>,
+}
+
+impl Life {
+    pub fn new(heap: Global) -> Life {
+        Life {
+            ledger: Ledger::new(),
+            choice: Choice::Flat,
+            prices: PRICES,
+            terms: TERMS,
+            wages: Vec::new(heap),
+            consumer: Vec::new(heap),
+            records: Vec::new(heap),
+        }
+    }
+
+    pub fn set(&mut self, setting: Setting) -> Result<(), AllocError> {
+        match setting {
+            Setting::Sheet(choice) => self.choice = choice,
+            Setting::Prices(prices) => self.prices = prices,
+            Setting::Contribution(hundredths) => self.terms.contribution = hundredths,
+            Setting::Weights(weights) => self.terms.weights = weights,
+            Setting::Wages(row) => self.wages.push(row)?,
+            Setting::Consumer(row) => self.consumer.push(row)?,
+            Setting::Record(row) => self.records.push(row)?,
+            Setting::Lend(places) => self.ledger.places = places,
+            Setting::Share(places) => self.ledger.share = places,
+            Setting::Balance { operator, micros } => self.ledger.set_balance(operator, micros),
+        }
+        Ok(())
+    }
+
+    // Plays a call, on the sheet where the zone asks one. A sheet that cannot be made refuses the call.
+    pub fn play(&mut self, strips: &mut Strips, call: Call) -> Outcome {
+        let played = match (&self.ledger.zone, call) {
+            (Zone::Prepared(_), _) | (_, Call::Launch(_)) => {
+                Ok(self.ledger.play(&FlatSheet::empty(), strips, call))
+            }
+            _ => self.play_on_sheet(strips, call),
+        };
+        played.unwrap_or_else(Outcome::Refused)
+    }
+
+    // Each sheet has a type of its own.
+    fn play_on_sheet(&mut self, strips: &mut Strips, call: Call) -> Result<Outcome, Refusal> {
+        match self.choice {
+            Choice::Flat => {
+                let mut sheet = FlatSheet::empty();
+                sheet.fill(self.prices, self.terms)?;
+                Ok(self.ledger.play(&sheet, strips, call))
+            }
+            Choice::Indexed => {
+                let mut sheet = IndexedSheet::empty();
+                let wages = self.wages.as_slice();
+                let consumer = self.consumer.as_slice();
+                sheet.fill(self.prices, self.terms, wages, consumer)?;
+                Ok(self.ledger.play(&sheet, strips, call))
+            }
+            Choice::Dated => {
+                let mut sheet = DatedSheet::empty();
+                sheet.fill(self.records.as_slice(), self.terms)?;
+                Ok(self.ledger.play(&sheet, strips, call))
+            }
+        }
+    }
+}

@@ -1,0 +1,108 @@
+// Commitments and raises of a launched zone whose levies are shared out at once.
+ghost use Rattle.std.specs.Prelude.{◌≡◌, length};
+ghost use Rattle.book.specs.Answers.{billing};
+ghost use Rattle.book.specs.Passing.{tables};
+ghost use Rattle.book.specs.Promises.{levied_on, written_answer};
+
+use book::entries::{RegisterEntry, RollEntry};
+use book::launched::LaunchedZone;
+use book::laws::share_outs_follow;
+use book::levy::OpenLevy;
+use book::lines::Line;
+use book::refused::Refused;
+use book::written::Written;
+use book::zone::{Change, Event};
+use refusal::Refusal;
+use tariff::tariff::Tariff;
+
+// A share-out of 16 operators and 1,024 objects has no more lines.
+pub const MOST_LINES: usize = 16_384;
+
+// What an accepted call leads to: the zone, the lines of its bill and of its share-out, and why a share-out on fewer places
+// was refused first, if it was.
+#[derive(Drop)]
+pub struct Settled {
+    pub zone: LaunchedZone,
+    pub billed: usize,
+    pub turned_down: Option<Refusal>,
+    pub credited: usize,
+}
+
+// The call of a change. Each of the two calls has an answer of its own, and one function for both lets one proof show that
+// a share-out after either is never refused.
+fn billed<T: Tariff>(
+    zone: LaunchedZone,
+    sheet: &T,
+    roll: &[RollEntry],
+    register: &[RegisterEntry],
+    strip: &mut [Line],
+    change: Change,
+    date: u32,
+    operator: u32,
+    rate: u32,
+) -> Result<Written<OpenLevy>, Refused<LaunchedZone>>
+    ensures answer { written_answer levied_on (tables roll.now register.now) strip.new result ≡ billing (T.meaning sheet.now) zone.figures zone.launch_date (tables roll.now register.now) (length strip.old) (record { change = change; date = date; operator = operator; rate = rate }) }
+{
+    match change {
+        Change::Commitment => zone.commitment(sheet, roll, register, strip, date, operator, rate),
+        Change::Raise => zone.raise(sheet, roll, register, strip, date, operator, rate),
+    }
+}
+
+// A commitment or raise, shared out at once: first on so many places of the credits' strip, and where those are too few, on
+// all of it. With a place for each line of the longest share-out it is never left open.
+pub fn shared<T: Tariff>(
+    zone: LaunchedZone,
+    sheet: &T,
+    roll: &mut [RollEntry],
+    register: &[RegisterEntry],
+    bill: &mut [Line],
+    credits: &mut [Line],
+    places: usize,
+    event: Event,
+) -> Result<Settled, Refused<LaunchedZone>> {
+    if credits.len() < MOST_LINES {
+        return Err(Refused {
+            refusal: Refusal::StripTooShort,
+            kept: zone,
+        });
+    }
+    share_outs_follow();
+    let Event {
+        change,
+        date,
+        operator,
+        rate,
+    } = event;
+    let accepted = billed(
+        zone, sheet, roll, register, bill, change, date, operator, rate,
+    )?;
+    let Written {
+        zone: levy,
+        lines: billed,
+    } = accepted;
+    let few = places.min(credits.len());
+    match levy.share_out(sheet, roll, register, &mut credits[..few]) {
+        Ok(done) => Ok(Settled {
+            zone: done.zone,
+            billed,
+            turned_down: None,
+            credited: done.lines,
+        }),
+        Err(back) => {
+            let Refused {
+                refusal,
+                kept: open,
+            } = back;
+            match open.share_out(sheet, roll, register, credits) {
+                Ok(done) => Ok(Settled {
+                    zone: done.zone,
+                    billed,
+                    turned_down: Some(refusal),
+                    credited: done.lines,
+                }),
+                Err(_open) => unreachable(),
+            }
+        }
+    }
+}
