@@ -1,5 +1,5 @@
 -- A file that is too long is stated alike, however it goes on.
-use Rattle.std.proofs.Common.{◌≡◌, ℕ, ◌||◌, ◌<◌, ◌/◌, ◌%◌, Bool, true, false, not, eqb, List, [], ◌∷◌, Some, None, Err, Option, IfSome, length, take, refl, sym, ap, ◌∙◌, arith}
+use Rattle.std.proofs.Common.{◌≡◌, ℕ, ◌||◌, ◌<◌, ◌/◌, ◌%◌, Bool, true, false, not, eqb, List, [], ◌∷◌, Err, length, take, refl, sym, ap, ◌∙◌, arith}
 use Rattle.std.proofs.lemmas.Bool.{ltb-true, ltb-false, lt-ltb}
 use Rattle.std.proofs.lemmas.List.{take_all, length-take-le}
 use Rattle.std.proofs.Math.Bool.{or-true}
@@ -34,8 +34,3 @@ cut_tells bs = go (ltb 65536 (length bs)) refl where
 
 pub cut_states : (m : Meaning) (t : Tables) (bs : List ℕ) → statement_of m t (take 65537 bs) ≡ statement_of m t bs
 cut_states m t bs = ap (λ (told : List Telling). statement_at (notices m (empty_state t) told) (lived m (empty_state t) (steps_told told))) (cut_tells bs)
-
--- So the statement of the first bytes of an input is that of all it gives.
-pub stated_from : (m : Meaning) (t : Tables) (input : Option (List ℕ)) (bs text : List ℕ) → IfSome input (λ given. bs ≡ take 65537 given) → text ≡ statement_of m t bs → IfSome input (λ given. text ≡ statement_of m t given)
-stated_from m t None bs text read says = read
-stated_from m t (Some given) bs text read says = says ∙ ap (statement_of m t) read ∙ cut_states m t given

@@ -1,5 +1,5 @@
 // The statement of an event file for the network: on its own price records, over tables in which no entry counts.
-ghost use Rattle.std.specs.Prelude.{◌≡◌, IfOk, IfSome, string_bytes};
+ghost use Rattle.std.specs.Prelude.{◌≡◌, ℕ, List, take, IfOk, string_bytes};
 ghost use Rattle.sheets.specs.DatedSheets.{dated_meaning};
 ghost use Rattle.run.specs.Reports.{RunsAsLife};
 ghost use Rattle.stating.specs.Network.{network_sheet, empty_tables};
@@ -7,14 +7,11 @@ ghost use Rattle.stating.specs.Statements.{statement_of};
 
 use crate::text::statement_text;
 use book::entries::{RegisterEntry, RollEntry};
-use event_file::input::file_bytes;
 use run::run::{REGISTER_PLACES, ROLL_PLACES, run};
 use sheet_parts::given::Terms;
 use sheets::dated::DatedSheet;
 use sheets::network::network_records;
 use std::alloc::{AllocError, Global};
-use std::io;
-use std::io::Read;
 use tariff::tariff::YEAR_INDICES;
 
 // A contribution of 15 hundredths, and tranches that weigh alike.
@@ -34,9 +31,11 @@ fn network_sheet() -> DatedSheet<'static>
     }
 }
 
-// Runs a file through an empty zone and states what came of it.
+// Runs a file through an empty zone and states what came of it. Of an input that is too long the first bytes say so, one
+// more than the longest file has: their statement is that of all of it.
 pub fn network_statement(heap: Global, bytes: &[u8]) -> Result<String, AllocError>
     ensures value { IfOk result (λ s. string_bytes s ≡ statement_of network_sheet empty_tables bytes.now) }
+    ensures input { (given : List ℕ) → bytes.now ≡ take 65537 given → IfOk result (λ s. string_bytes s ≡ statement_of network_sheet empty_tables given) }
     ensures life { RunsAsLife network_sheet empty_tables bytes.now }
 {
     let sheet = network_sheet();
@@ -44,12 +43,4 @@ pub fn network_statement(heap: Global, bytes: &[u8]) -> Result<String, AllocErro
     let mut register = [RegisterEntry::BLANK; REGISTER_PLACES];
     let report = run(heap, &sheet, bytes, &mut roll, &mut register)?;
     statement_text(heap, &report, &roll)
-}
-
-// States the file that an input gives, reading no more of it than one byte past the longest file.
-pub fn statement_from<R: Read + Drop>(heap: Global, input: R) -> io::Result<String>
-    ensures value { IfOk result (λ s. IfSome (R.remaining input) (λ given. string_bytes s ≡ statement_of network_sheet empty_tables given)) }
-{
-    let bytes = file_bytes(heap, input)?;
-    Ok(network_statement(heap, bytes.as_slice())?)
 }

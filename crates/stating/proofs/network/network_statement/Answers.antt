@@ -7,6 +7,7 @@ use Rattle.sheets.specs.DatedSheets.{dated_meaning}
 use Rattle.stating.specs.Network.{network_sheet, empty_tables}
 use Rattle.stating.specs.Statements.{statement_of}
 use Rattle.stating.proofs.Stated.{states_the_run}
+use Rattle.stating.proofs.TooLong.{cut_states}
 use Rattle.stating.proofs.network.network_statement.Goals as goal
 
 pub returns-in_err-report-clause-life : goal.returns-in_err-report-clause-life
@@ -23,3 +24,8 @@ returns-clause-value c =
 
 pub returns-clause-life : goal.returns-clause-life
 returns-clause-life c = subst (λ m. RunsAsLife m empty_tables c.args.bytes.now) c.network_sheet-sheet.ensures.meaning c.run.ensures.life
+
+pub returns-clause-input : goal.returns-clause-input
+returns-clause-input c given first =
+    IfOk-weaker c.statement_text.result _ (λ s. string_bytes s ≡ statement_of network_sheet empty_tables given)
+    (λ s is. is ∙ ap (statement_of network_sheet empty_tables) first ∙ cut_states network_sheet empty_tables given) (returns-clause-value c)
