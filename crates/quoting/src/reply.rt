@@ -1,5 +1,5 @@
 // The answer to a line, and its text.
-ghost use Rattle.std.specs.Prelude.{Some};
+ghost use Rattle.std.specs.Prelude.{◌≡◌, ◌+◌, ◌-◌, ◌^◌, min, Some};
 ghost use Rattle.quoting.specs.Replies.{reply_text};
 
 use links::order::Quotation;
@@ -20,6 +20,19 @@ pub enum Answer {
 pub struct Reply {
     pub line: u64,
     pub answer: Answer,
+}
+
+impl Reply {
+    // The reply to a line with so many above it, as far as a number goes.
+    pub const fn below(above: usize, answer: Answer) -> Reply
+        ensures line { result.line ≡ min (above + 1) (2 ^ 64 - 1) }
+        ensures answer { result.answer ≡ answer }
+    {
+        Reply {
+            line: (above as u64).saturating_add(1),
+            answer,
+        }
+    }
 }
 
 impl fmt::Display for Reply {

@@ -11,10 +11,7 @@ pub fn run(rt: &HostRuntime) -> io::Result<()> {
     for (above, bytes) in lines.enumerate() {
         let bytes = bytes?;
         if let Some(answer) = desk.take(bytes.as_slice())? {
-            let reply = Reply {
-                line: (above as u64).saturating_add(1),
-                answer,
-            };
+            let reply = Reply::below(above, answer);
             println!(rt; "{reply}")?;
         }
     }
