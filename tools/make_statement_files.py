@@ -3,8 +3,9 @@
 
     python3 tools/make_statement_files.py
 
-The small example is that of docs/RULES.md. The long one is a zone of twenty years, with every refusal that a file can
-meet but 19, which leaves nothing else of a file. The others are damaged, each in its way, or at a limit.
+The small example is that of docs/RULES.md. The long one is a zone of twenty years, and then of its last year index, with
+every refusal that a file can meet but 19, which leaves nothing else of a file. The others are damaged, each in its way,
+or at a limit.
 """
 import pathlib
 
