@@ -28,6 +28,18 @@ pub struct Settled {
     pub credited: usize,
 }
 
+impl Settled {
+    // A levy billed on so many lines and shared out, perhaps after a first try.
+    fn after(billed: usize, turned_down: Option<Refusal>, done: Written<LaunchedZone>) -> Settled {
+        Settled {
+            zone: done.zone,
+            billed,
+            turned_down,
+            credited: done.lines,
+        }
+    }
+}
+
 // The call of a change. Each of the two calls has an answer of its own, and one function for both lets one proof show that
 // a share-out after either is never refused.
 fn billed<T: Tariff>(
@@ -36,14 +48,12 @@ fn billed<T: Tariff>(
     roll: &[RollEntry],
     register: &[RegisterEntry],
     strip: &mut [Line],
-    change: Change,
-    date: u32,
-    operator: u32,
-    rate: u32,
+    event: Event,
 ) -> Result<Written<OpenLevy>, Refused<LaunchedZone>>
-    ensures answer { written_answer levied_on (tables roll.now register.now) strip.new result ≡ billing (T.meaning sheet.now) zone.figures zone.launch_date (tables roll.now register.now) (length strip.old) (record { change = change; date = date; operator = operator; rate = rate }) }
+    ensures answer { written_answer levied_on (tables roll.now register.now) strip.new result ≡ billing (T.meaning sheet.now) zone.figures zone.launch_date (tables roll.now register.now) (length strip.old) event }
 {
-    match change {
+    let (date, operator, rate) = (event.date, event.operator, event.rate);
+    match event.change {
         Change::Commitment => zone.commitment(sheet, roll, register, strip, date, operator, rate),
         Change::Raise => zone.raise(sheet, roll, register, strip, date, operator, rate),
     }
@@ -68,41 +78,16 @@ pub fn shared<T: Tariff>(
         });
     }
     share_outs_follow();
-    let Event {
-        change,
-        date,
-        operator,
-        rate,
-    } = event;
-    let accepted = billed(
-        zone, sheet, roll, register, bill, change, date, operator, rate,
-    )?;
-    let Written {
-        zone: levy,
-        lines: billed,
-    } = accepted;
+    let accepted = billed(zone, sheet, roll, register, bill, event)?;
+    let Written { zone: levy, lines } = accepted;
     let few = places.min(credits.len());
-    match levy.share_out(sheet, roll, register, &mut credits[..few]) {
-        Ok(done) => Ok(Settled {
-            zone: done.zone,
-            billed,
-            turned_down: None,
-            credited: done.lines,
-        }),
-        Err(back) => {
-            let Refused {
-                refusal,
-                kept: open,
-            } = back;
-            match open.share_out(sheet, roll, register, credits) {
-                Ok(done) => Ok(Settled {
-                    zone: done.zone,
-                    billed,
-                    turned_down: Some(refusal),
-                    credited: done.lines,
-                }),
-                Err(_open) => unreachable(),
-            }
-        }
+    let back = match levy.share_out(sheet, roll, register, &mut credits[..few]) {
+        Ok(done) => return Ok(Settled::after(lines, None, done)),
+        Err(back) => back,
+    };
+    let Refused { refusal, kept } = back;
+    match kept.share_out(sheet, roll, register, credits) {
+        Ok(done) => Ok(Settled::after(lines, Some(refusal), done)),
+        Err(_open) => unreachable(),
     }
 }
