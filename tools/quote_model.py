@@ -4,8 +4,8 @@
   quote_model.py cases            prints the orders of crates/link_cases: every table entry at both edges of its row
   quote_model.py < LINES          prints the replies to lines as docs/FORMAT.md describes them
 
-The tables are typed from the network's published prices, and sums are done with exact fractions, so that
-the proved program is held to something other than itself:
+The tables are typed a second time, and sums are done with exact fractions, so that the proved program is held
+to something other than itself:
 
   tools/quote_model.py cases > crates/link_cases/stdin
   tools/quote_model.py < crates/link_cases/stdin > crates/link_cases/stdout
@@ -202,6 +202,7 @@ def cases():
                 yield f"{item} 20200315 {low} {fibres}"
                 yield f"{item} 20200315 {high} {fibres}"
                 # in the month of the service date the coefficient is one
+                yield f"{item} 20200315 {low} {fibres} 20200314"
                 yield f"{item} 20200315 {high} {fibres} 20200314"
         # from one month to beyond the row's end
         for order in (20180401, 20180601, 20190930, 20230815, 20300101, 20380228, 20380331, 20431231):

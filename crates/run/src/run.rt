@@ -18,7 +18,7 @@ pub const ROLL_PLACES: usize = 16;
 pub const REGISTER_PLACES: usize = 64;
 
 // Runs a file through an empty zone with these tables, each levy shared out at once. Whatever the file holds it gives a
-// report; only want of memory stops it, and that before anything is read.
+// report; only want of memory stops it, and then the tables stay as they were.
 pub fn run<'a, T: Tariff>(
     heap: Global,
     sheet: &T,
