@@ -5,9 +5,14 @@
     python3 tools/life_model.py < crates/life_cases/stdin > crates/life_cases/stdout
 
 The lives written by hand aim at the sums of docs/RULES.md, at every refusal of each kind of call, and at the order of
-the conditions. Those after them are drawn at random, from a fixed seed. tools/life_model.py describes the lines.
+the conditions. Those after them are drawn at random, from a fixed seed, or from the seed and as many as are named:
+
+    python3 tools/make_lives.py SEED DRAWN
+
+tools/life_model.py describes the lines.
 """
 import random
+import sys
 
 SEED = 20170315
 DRAWN = 60
@@ -410,8 +415,9 @@ class Drawing:
 
 
 def drawn():
-    source = random.Random(SEED)
-    for number in range(1, DRAWN + 1):
+    seed, count = map(int, sys.argv[1:3]) if len(sys.argv) > 2 else (SEED, DRAWN)
+    source = random.Random(seed)
+    for number in range(1, count + 1):
         yield f"drawn {number}", Drawing(source).lines()
 
 
