@@ -17,7 +17,7 @@ pub struct Desk {
 }
 
 impl Desk {
-    pub fn new(heap: Global) -> Result<Desk, AllocError> {
+    pub(crate) fn new(heap: Global) -> Result<Desk, AllocError> {
         Ok(Desk {
             life: None,
             strips: Strips {
@@ -28,7 +28,7 @@ impl Desk {
     }
 
     // Plays a line. A blank line and a comment say nothing; a line that cannot be read changes nothing.
-    pub fn take(&mut self, rt: &HostRuntime, line: &str) -> io::Result<()> {
+    pub(crate) fn take(&mut self, rt: &HostRuntime, line: &str) -> io::Result<()> {
         let words: Vec<&str> = line.split_whitespace().collect(rt.alloc())?;
         if words.first().is_none_or(|word| word.starts_with('#')) {
             return Ok(());
@@ -53,7 +53,7 @@ impl Desk {
     }
 
     // Prints what the life comes to.
-    pub fn close(&self, rt: &HostRuntime) -> io::Result<()> {
+    pub(crate) fn close(&self, rt: &HostRuntime) -> io::Result<()> {
         let Some(life) = &self.life else {
             return Ok(());
         };

@@ -90,7 +90,7 @@ fn refused_launched(back: Refused<LaunchedZone>) -> (Zone, Outcome) {
 
 impl Ledger {
     // An empty zone in preparation, with blank tables that are lent whole.
-    pub const fn new() -> Ledger {
+    pub(crate) const fn new() -> Ledger {
         Ledger {
             zone: Zone::Prepared(PreparedZone::new()),
             roll: [RollEntry::BLANK; ROLL_PLACES],
@@ -105,7 +105,7 @@ impl Ledger {
     }
 
     // The zone's plain numbers.
-    pub fn figures(&self) -> Figures {
+    pub(crate) fn figures(&self) -> Figures {
         match &self.zone {
             Zone::Prepared(zone) => zone.figures(),
             Zone::Launched(zone) => zone.figures(),
@@ -113,7 +113,7 @@ impl Ledger {
     }
 
     // Writes a balance straight into the roll.
-    pub fn set_balance(&mut self, operator: u32, micros: u64) {
+    pub(crate) fn set_balance(&mut self, operator: u32, micros: u64) {
         let counted = self.figures().operators;
         for member in self.roll.iter_mut().take(counted) {
             if member.operator == operator {
@@ -123,7 +123,12 @@ impl Ledger {
     }
 
     // Plays a call. Before its launch a zone asks nothing of the sheet.
-    pub fn play<T: Tariff>(&mut self, sheet: &T, strips: &mut Strips, call: Call) -> Outcome {
+    pub(crate) fn play<T: Tariff>(
+        &mut self,
+        sheet: &T,
+        strips: &mut Strips,
+        call: Call,
+    ) -> Outcome {
         // An empty zone stands in its place while the zone is moved through the call.
         let before = mem::replace(&mut self.zone, Zone::Prepared(PreparedZone::new()));
         let (after, outcome) = match (before, call) {

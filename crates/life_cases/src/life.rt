@@ -36,7 +36,7 @@ pub struct Life {
 }
 
 impl Life {
-    pub fn new(heap: Global) -> Life {
+    pub(crate) fn new(heap: Global) -> Life {
         Life {
             ledger: Ledger::new(),
             choice: Choice::Flat,
@@ -48,7 +48,7 @@ impl Life {
         }
     }
 
-    pub fn set(&mut self, setting: Setting) -> Result<(), AllocError> {
+    pub(crate) fn set(&mut self, setting: Setting) -> Result<(), AllocError> {
         match setting {
             Setting::Sheet(choice) => self.choice = choice,
             Setting::Prices(prices) => self.prices = prices,
@@ -65,7 +65,7 @@ impl Life {
     }
 
     // Plays a call, on the sheet where the zone asks one. A sheet that cannot be made refuses the call.
-    pub fn play(&mut self, strips: &mut Strips, call: Call) -> Outcome {
+    pub(crate) fn play(&mut self, strips: &mut Strips, call: Call) -> Outcome {
         let played = match (&self.ledger.zone, call) {
             (Zone::Prepared(_), _) | (_, Call::Launch(_)) => {
                 Ok(self.ledger.play(&FlatSheet::empty(), strips, call))

@@ -8,7 +8,7 @@ use tariff::kinds::Kind;
 use tariff::tariff::YEAR_INDICES;
 
 // What a line says by its words.
-pub fn instruction_in(words: &[&str]) -> Option<Instruction> {
+pub(crate) fn instruction_in(words: &[&str]) -> Option<Instruction> {
     match words {
         ["life", ..] => Some(Instruction::Life),
         ["L", date] => Some(Instruction::Call(Call::Launch(date.parse().ok()?))),
