@@ -2,6 +2,7 @@
 --   tells_at      what a step of the reading tells
 --   shown_notice  a notice with its label as a list of bytes
 --   noticed       the notice that a step gives, if it gives one
+--   Forward       from one position to a later one, within the file
 --   Goes          a step that is not the last goes forward in the file
 use Rattle.std.specs.Prelude.{◌≡◌, ℕ, ◌<◌, ◌≤◌, List, [], ◌∷◌, Some, None, Ok, Err, Option, Result}
 use Rattle.event_file.specs.Entries.{event, blank}
@@ -25,10 +26,10 @@ abbrev pub noticed : Result (Option (Unit {0})) Notice → List ShownNotice
 noticed (Ok taken) = []
 noticed (Err notice) = shown_notice notice ∷ []
 
--- From a position p to a position q, unless the file has ended.
 abbrev pub Forward : List ℕ → ℕ → ℕ → Type 0
 Forward bs p q = (p < q) × (q ≤ places bs)
 
+-- From a position p to a position q, unless the file has ended.
 abbrev pub Goes : List ℕ → ℕ → ℕ → Result (Option (Unit {0})) Notice → Type 0
 Goes bs p q (Ok None) = step_at bs p ≡ Ok end
 Goes bs p q (Ok (Some taken)) = Forward bs p q
