@@ -6,7 +6,6 @@
 pub mod dated;
 pub mod dated_answers;
 pub mod flat;
-pub mod flat_answers;
 pub mod indexed;
 pub mod indexed_answers;
 mod indexing;
