@@ -110,7 +110,7 @@ settling_checks m f launch_date t places v =
 
 -- A roll entry with an amount on its balance.
 abbrev pub with_credit : ℕ → RollEntry → RollEntry
-with_credit amount e = record { operator = e.operator; tranches = e.tranches; balance = e.balance + amount }
+with_credit amount e = record e { balance = e.balance + amount }
 
 -- Every operator's shares on its balance.
 abbrev pub credited_roll : Meaning → Addition → List RegisterEntry → List RollEntry → List RollEntry

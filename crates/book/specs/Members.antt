@@ -76,7 +76,7 @@ first_tranches a = more_tranches a (replicate years 0)
 
 -- A roll entry with tranches added, and a new one with balance 0.
 abbrev pub subscribed : Addition → RollEntry → RollEntry
-subscribed a e = record { operator = e.operator; tranches = more_tranches a e.tranches; balance = e.balance }
+subscribed a e = record e { tranches = more_tranches a e.tranches }
 
 abbrev pub newcomer : Addition → RollEntry
 newcomer a = record { operator = a.operator; tranches = first_tranches a; balance = 0 }
@@ -87,7 +87,7 @@ entered_roll a roll = placed (λ e. e.operator) a.operator (subscribed a) (newco
 
 -- The same of members.
 abbrev pub member_subscribed : Addition → Member → Member
-member_subscribed a x = record { operator = x.operator; tranches = more_tranches a x.tranches; balance = x.balance }
+member_subscribed a x = record x { tranches = more_tranches a x.tranches }
 
 abbrev pub new_member : Addition → Member
 new_member a = record { operator = a.operator; tranches = first_tranches a; balance = 0 }

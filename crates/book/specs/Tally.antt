@@ -36,11 +36,11 @@ empty_tally = record {
 
 -- Launch sets its date.
 abbrev pub launch_noted : ℕ → Tally → Tally
-launch_noted date t = record { launch_date = Some date; event = None; members = t.members; objects = t.objects; totals = t.totals }
+launch_noted date t = record t { launch_date = Some date; event = None }
 
 -- An opening or cabling adds its object.
 abbrev pub object_noted : RegisterEntry → Tally → Tally
-object_noted o t = record { launch_date = t.launch_date; event = t.event; members = t.members; objects = t.objects ++ o ∷ []; totals = t.totals }
+object_noted o t = record t { objects = t.objects ++ o ∷ [] }
 
 -- A commitment or raise adds its tranches at index 0, or after the launch is kept as the event.
 abbrev pub event_noted : Event → Option ℕ → Tally → Tally
@@ -61,7 +61,7 @@ event_noted v (Some date) t = record {
 
 -- A member with an amount on its balance.
 abbrev pub member_credited : ℕ → Member → Member
-member_credited amount x = record { operator = x.operator; tranches = x.tranches; balance = x.balance + amount }
+member_credited amount x = record x { balance = x.balance + amount }
 
 abbrev pub credited_members : Meaning → Addition → List RegisterEntry → List Member → List Member
 credited_members m a objects members =

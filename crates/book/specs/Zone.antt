@@ -72,20 +72,20 @@ no_figures = record { last = None; operators = 0; objects = 0; totals = no_total
 
 -- The figures with another last date, other counts, other totals.
 abbrev pub dated : ℕ → Figures → Figures
-dated date f = record { last = Some date; operators = f.operators; objects = f.objects; totals = f.totals }
+dated date f = record f { last = Some date }
 
 abbrev pub counting_operators : ℕ → Figures → Figures
-counting_operators n f = record { last = f.last; operators = n; objects = f.objects; totals = f.totals }
+counting_operators n f = record f { operators = n }
 
 abbrev pub counting_objects : ℕ → Figures → Figures
-counting_objects n f = record { last = f.last; operators = f.operators; objects = n; totals = f.totals }
+counting_objects n f = record f { objects = n }
 
 abbrev pub with_totals : Totals → Figures → Figures
-with_totals totals f = record { last = f.last; operators = f.operators; objects = f.objects; totals = totals }
+with_totals totals f = record f { totals = totals }
 
 -- The tables with other entries from the start, the places after them as they were.
 abbrev pub with_roll : Tables → List RollEntry → Tables
-with_roll t entries = record { roll = written entries t.roll; register = t.register }
+with_roll t entries = record t { roll = written entries t.roll }
 
 abbrev pub with_register : Tables → List RegisterEntry → Tables
-with_register t entries = record { roll = t.roll; register = written entries t.register }
+with_register t entries = record t { register = written entries t.register }
