@@ -4,7 +4,7 @@
 --   serves                whether an amount and a weight are both above 0
 --   share, due            an operator's share of an object; 1 where it has one, else 0
 --   credits               the credit lines of a share-out
-use Rattle.std.specs.Prelude.{ℕ, zero, suc, ◌*◌, Bool, true, false, cond, List, [], ◌∷◌, ◌==◌, flat_map}
+use Rattle.std.specs.Prelude.{ℕ, zero, suc, ◌*◌, Bool, true, false, cond, List, [], ◌∷◌, ◌==◌, flat_map, length}
 use Rattle.tariff.specs.Meaning.{Meaning}
 use Rattle.book.specs.Lists.{total}
 use Rattle.book.specs.Lines.{line}
@@ -13,6 +13,7 @@ use Rattle.book.specs.Billing.{unit_contribution}
 use Rattle.book.specs.declared.entries.RegisterEntry.{RegisterEntry}
 use Rattle.book.specs.declared.lines.Line.{Line}
 use Rattle.book.specs.declared.lines.Nature.TheVariants.{Credit}
+use Rattle.book.specs.declared.zone.Totals.{Totals}
 
 -- An object contributes its unit contribution times its dwellings.
 abbrev pub object_contribution : Meaning → Addition → RegisterEntry → ℕ
@@ -68,3 +69,12 @@ credits m a objects members =
 abbrev pub left_unshared : Meaning → Addition → List RegisterEntry → List Member → ℕ
 left_unshared m a objects members =
     cond (whole_weight m a.index members == 0) (total (object_contribution m a) objects) 0
+
+-- What a share-out moves: what is contributed, the lines' totals, what is unshared, and how many lines there are.
+abbrev pub moved_by : Meaning → Addition → List RegisterEntry → List Member → Totals
+moved_by m a objects members = record {
+  contributed = total (object_contribution m a) objects;
+  credited = total (λ l. l.total) (credits m a objects members);
+  unshared = left_unshared m a objects members;
+  credit_lines = length (credits m a objects members);
+}

@@ -6,7 +6,6 @@ ghost use Rattle.book.specs.Answers.{installation, billing};
 ghost use Rattle.book.specs.Calls.{commitment as call_commitment, raise as call_raise, opening as call_opening, cabling as call_cabling, commitment_event, raise_event, opened, cabled};
 ghost use Rattle.book.specs.Passing.{tables};
 
-use calendar::year_index;
 use crate::adding::increase_of;
 use crate::bill::{bill, charge};
 use crate::counted::{Object, Objects, Operators};
@@ -17,6 +16,7 @@ use crate::refused::Refused;
 use crate::tables::Tables;
 use crate::written::Written;
 use crate::zone::{Change, Event, Figures};
+use calendar::year_index;
 use tariff::kinds::Kind;
 use tariff::tariff::Tariff;
 

@@ -7,7 +7,6 @@ ghost use Rattle.book.specs.Answers.{settling};
 ghost use Rattle.book.specs.Calls.{share_out as call_share_out};
 ghost use Rattle.book.specs.Passing.{tables};
 
-use calendar::year_index;
 use crate::adding::increase_of;
 use crate::counted::Objects;
 use crate::entries::{RegisterEntry, RollEntry};
@@ -18,6 +17,7 @@ use crate::settle::settle;
 use crate::tables::Tables;
 use crate::written::Written;
 use crate::zone::{Event, Figures, Totals};
+use calendar::year_index;
 use tariff::tariff::Tariff;
 
 // It takes a share-out and nothing else. It has no `Drop`, so that no code can let it go: a levy may not lapse.

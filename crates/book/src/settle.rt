@@ -2,9 +2,9 @@
 ghost use Rattle.std.specs.Prelude.{◌≡◌, ◌≤◌, false, length, take};
 ghost use Rattle.std.specs.List.{list_any};
 ghost use Rattle.book.specs.Limits.{most_operators};
-ghost use Rattle.book.specs.Lists.{one_of, total, written};
+ghost use Rattle.book.specs.Lists.{one_of, written};
 ghost use Rattle.book.specs.Members.{members_of, entered_roll};
-ghost use Rattle.book.specs.Sharing.{object_contribution, credits, left_unshared};
+ghost use Rattle.book.specs.Sharing.{credits, moved_by};
 ghost use Rattle.book.specs.Answers.{credited_roll};
 ghost use Rattle.book.specs.Increases.{addition_in};
 ghost use Rattle.book.specs.Refusals.{entry_faults};
@@ -33,10 +33,9 @@ pub(crate) fn settle<T: Tariff>(
     requires roll { list_any (λ e. one_of (entry_faults e)) (take counted roll.old) ≡ false }
     requires place { length (entered_roll (addition_in increase) (take counted roll.old)) ≤ length roll.old }
     requires room { length (credits (T.meaning sheet.now) (addition_in increase) objects.items.now (members_of (take counted roll.old))) ≤ length strip.old }
-    ensures contributed { result.0.contributed ≡ total (object_contribution (T.meaning sheet.now) (addition_in increase)) objects.entry.items.now }
-    ensures credited { result.0.credited ≡ total (λ l. l.total) (credits (T.meaning sheet.now) (addition_in increase) objects.entry.items.now (members_of (take counted roll.old))) }
-    ensures unshared { result.0.unshared ≡ left_unshared (T.meaning sheet.now) (addition_in increase) objects.entry.items.now (members_of (take counted roll.old)) }
-    ensures lines { result.0.credit_lines ≡ length (credits (T.meaning sheet.now) (addition_in increase) objects.entry.items.now (members_of (take counted roll.old))) }
+    ensures moved { let m = T.meaning sheet.now in
+        let a = addition_in increase in
+        result.0 ≡ moved_by m a objects.entry.items.now (members_of (take counted roll.old)) }
     ensures most { (result.0.contributed ≤ 102400000000000000) × (result.0.credited ≤ 1638400000000000000) × (result.0.unshared ≤ 102400000000000000) × (result.0.credit_lines ≤ 16384) }
     ensures strip { strip.new ≡ written (credits (T.meaning sheet.now) (addition_in increase) objects.entry.items.now (members_of (take counted roll.old))) strip.old }
     ensures roll { roll.new ≡ written (entered_roll (addition_in increase) (credited_roll (T.meaning sheet.now) (addition_in increase) objects.entry.items.now (take counted roll.old))) roll.old }

@@ -2,9 +2,9 @@
 ghost use Rattle.std.specs.Prelude.{◌≡◌, ◌≤◌, false, length, if◌then◌else◌, nat_eq};
 ghost use Rattle.std.specs.List.{list_any};
 ghost use Rattle.book.specs.Limits.{most_operators};
-ghost use Rattle.book.specs.Lists.{one_of, total, written};
+ghost use Rattle.book.specs.Lists.{one_of, written};
 ghost use Rattle.book.specs.Members.{members_of};
-ghost use Rattle.book.specs.Sharing.{object_contribution, serves, credits, left_unshared};
+ghost use Rattle.book.specs.Sharing.{serves, credits, moved_by};
 ghost use Rattle.book.specs.Answers.{credited_roll};
 ghost use Rattle.book.specs.Increases.{addition_in, amount_lines, lines_shared};
 ghost use Rattle.book.specs.Refusals.{entry_faults};
@@ -47,10 +47,9 @@ pub(crate) fn share_out<T: Tariff>(
     requires operators { length roll.old ≤ most_operators }
     requires roll { list_any (λ e. one_of (entry_faults e)) roll.old ≡ false }
     requires room { length (credits (T.meaning sheet.now) (addition_in increase) objects.items.now (members_of roll.old)) ≤ length strip.old }
-    ensures contributed { result.contributed ≡ total (object_contribution (T.meaning sheet.now) (addition_in increase)) objects.entry.items.now }
-    ensures credited { result.credited ≡ total (λ l. l.total) (credits (T.meaning sheet.now) (addition_in increase) objects.entry.items.now (members_of roll.old)) }
-    ensures unshared { result.unshared ≡ left_unshared (T.meaning sheet.now) (addition_in increase) objects.entry.items.now (members_of roll.old) }
-    ensures number { result.credit_lines ≡ length (credits (T.meaning sheet.now) (addition_in increase) objects.entry.items.now (members_of roll.old)) }
+    ensures moved { let m = T.meaning sheet.now in
+        let a = addition_in increase in
+        result ≡ moved_by m a objects.entry.items.now (members_of roll.old) }
     ensures strip { strip.new ≡ written (credits (T.meaning sheet.now) (addition_in increase) objects.entry.items.now (members_of roll.old)) strip.old }
     ensures roll { roll.new ≡ credited_roll (T.meaning sheet.now) (addition_in increase) objects.entry.items.now roll.old }
     ensures most { (result.contributed ≤ 102400000000000000) × (result.credited ≤ 1638400000000000000) × (result.unshared ≤ 102400000000000000) × (result.credit_lines ≤ 16384) }

@@ -102,10 +102,11 @@ returns g c =
     let e = credits_are m a whole c.args.objects.items.now c.args.roll.now is in
     let all = outer_done c.loop-item.invariant c.loop-item-test.false (omega (arith, ap length e, c.requires.room)) in
     record {
-      contributed = all.3;
-      credited = all.4 ∙ ap sums e;
-      unshared = unshared_is m a whole c.args.objects.items.now c.args.roll.now is _ _ all.3 c.unshared_of.ensures.value;
-      number = all.0 ∙ ap length e;
+      moved =
+          let credited = all.4 ∙ ap sums e in
+          let unshared = unshared_is m a whole c.args.objects.items.now c.args.roll.now is _ _ all.3 c.unshared_of.ensures.value in
+          let number = all.0 ∙ ap length e in
+          (λ i. record { contributed = all.3 i; credited = credited i; unshared = unshared i; credit_lines = number i });
       strip = all.1 ∙ ap (λ ls. written ls c.args.strip.now) e;
       roll = all.2 ∙ entries_are m a whole c.args.objects.items.now c.args.roll.now is;
       most =

@@ -66,7 +66,7 @@ returns g c =
     let is = adds g (goal.at.returns g c).After-increase_of-increase in
     let accepted = carried (first (settling_checks m f d t places v)) tt _ (λ _. settling_effect m f d t v) (turned m f d t places v _ c.check_share_out.ensures.answer ∙ c.in_default.is) in
     let done = c.settle-operators.ensures in
-    let answer = ap Ok (settled_is m f d t places v _ _ _ _ c.args.strip.now _ is done.contributed done.credited done.unshared done.lines done.number done.roll done.strip) ∙ accepted in
+    let answer = ap Ok (settled_is m f d t places v _ _ _ _ c.args.strip.now _ is (ap (λ x. x.contributed) done.moved) (ap (λ x. x.credited) done.moved) (ap (λ x. x.unshared) done.moved) (ap (λ x. x.credit_lines) done.moved) done.number done.roll done.strip) ∙ accepted in
     record {
       answer = answer;
       strip = written_is m f d t places v _ c.args.strip.now _ is done.strip ∙ ap (strip_after c.args.strip.now) accepted;
