@@ -8,11 +8,16 @@ use Rattle.refusal.specs.declared.Refusal.TheVariants.{AlreadyOnRoll, NotOnRoll,
 use Rattle.book.specs.declared.zone.Change.{Change}
 use Rattle.book.specs.declared.zone.Change.TheVariants.{Commitment, Raise}
 use Rattle.book.specs.Zone.{Tables}
+use Rattle.book.specs.declared.tables.Tables as lent
 use Rattle.book.specs.declared.entries.RollEntry.{RollEntry}
 use Rattle.book.specs.declared.entries.RegisterEntry.{RegisterEntry}
 
 abbrev pub tables : List RollEntry → List RegisterEntry → Tables
 tables roll register = record { roll = roll; register = register }
+
+-- The tables that a call is lent.
+abbrev pub tables_in : lent.Tables → Tables
+tables_in t = tables t.roll.now t.register.now
 
 -- The checks of a change by what the roll says of its operator: its rate if it has one, and whether a newcomer finds no place.
 abbrev pub changing : Change → Option ℕ → Bool → ℕ → List Check

@@ -2,11 +2,12 @@
 ghost use Rattle.std.specs.Prelude.{◌≡◌, [], ◌∷◌, take, nat_lt};
 ghost use Rattle.refusal.specs.Checks.{◌⇒◌, in_turn};
 ghost use Rattle.refusal.specs.declared.Refusal.TheVariants.{StripTooShort};
-ghost use Rattle.calendar.specs.Days.{index_of};
 ghost use Rattle.book.specs.Refusals.{tables_check, date_checks, index_check, roll_checks, register_checks, price_check, coefficient_check};
 ghost use Rattle.book.specs.Increases.{addition_in, lines_billed, lines_shared};
-ghost use Rattle.book.specs.Members.{addition, members_of};
-ghost use Rattle.book.specs.Passing.{tables};
+ghost use Rattle.book.specs.Members.{members_of};
+ghost use Rattle.book.specs.Passing.{tables, tables_in};
+ghost use Rattle.book.specs.Zone.{counted_register, counted_members};
+ghost use Rattle.book.specs.Answers.{added};
 
 use crate::adding::increase_of;
 use crate::asking::{check_coefficients, check_prices};
@@ -71,7 +72,17 @@ impl LaunchedZone {
         places: usize,
         event: &Event,
     ) -> Result<(), Refusal>
-        ensures answer { result ≡ in_turn (tables_check self.now.figures (tables lent.entry.roll.now lent.entry.register.now) ∷ []) (date_checks self.now.figures event.now.date ∷ (index_check self.now.launch_date event.now.date ∷ []) ∷ roll_checks self.now.figures (tables lent.entry.roll.now lent.entry.register.now) event.now ∷ (price_check (T.meaning sheet.now) (take self.now.figures.objects lent.entry.register.now) ∷ []) ∷ (coefficient_check (T.meaning sheet.now) event.now.date (take self.now.figures.objects lent.entry.register.now) ∷ []) ∷ ((nat_lt places (lines_billed event.now.date (take self.now.figures.objects lent.entry.register.now)) ⇒ StripTooShort) ∷ []) ∷ []) }
+        ensures answer { let m = T.meaning sheet.now in
+            let f = self.now.figures in
+            let t = tables_in lent.entry in
+            let objects = counted_register f t in
+            result ≡ in_turn (tables_check f t ∷ [])
+            (date_checks f event.now.date ∷
+            (index_check self.now.launch_date event.now.date ∷ []) ∷
+            roll_checks f t event.now ∷
+            (price_check m objects ∷ []) ∷
+            (coefficient_check m event.now.date objects ∷ []) ∷
+            ((nat_lt places (lines_billed event.now.date objects) ⇒ StripTooShort) ∷ []) ∷ []) }
     {
         check_tables(&self.figures, lent)?;
         check_date(&self.figures, event.date)?;
@@ -94,7 +105,15 @@ impl OpenLevy {
         lent: Tables<'_>,
         places: usize,
     ) -> Result<(), Refusal>
-        ensures answer { result ≡ in_turn (tables_check self.now.figures (tables lent.entry.roll.now lent.entry.register.now) ∷ []) (roll_checks self.now.figures (tables lent.entry.roll.now lent.entry.register.now) self.now.event ∷ (price_check (T.meaning sheet.now) (take self.now.figures.objects lent.entry.register.now) ∷ []) ∷ ((nat_lt places (lines_shared (T.meaning sheet.now) (addition (index_of self.now.launch_date self.now.event.date) self.now.event (members_of (take self.now.figures.operators lent.entry.roll.now))) (take self.now.figures.objects lent.entry.register.now) (members_of (take self.now.figures.operators lent.entry.roll.now))) ⇒ StripTooShort) ∷ []) ∷ []) }
+        ensures answer { let m = T.meaning sheet.now in
+            let f = self.now.figures in
+            let t = tables_in lent.entry in
+            let objects = counted_register f t in
+            let a = added f self.now.launch_date t self.now.event in
+            result ≡ in_turn (tables_check f t ∷ [])
+            (roll_checks f t self.now.event ∷
+            (price_check m objects ∷ []) ∷
+            ((nat_lt places (lines_shared m a objects (counted_members f t)) ⇒ StripTooShort) ∷ []) ∷ []) }
     {
         check_tables(&self.figures, lent)?;
         check_roll(&self.figures, lent, &self.event)?;
