@@ -3,12 +3,12 @@
 --   LivesBegin                         a life begins, whatever the tables, and its accounts hold
 --   LivesOn                            a life goes on by a call, and its accounts hold
 --   CutsFairly                         an accepted raise and its parts, however it is cut, show units that differ by little
-use Rattle.std.specs.Prelude.{ℕ, List, [], ◌∷◌, length, take, Ok, Err, Result}
+use Rattle.std.specs.Prelude.{◌≡◌, ℕ, List, [], ◌∷◌, length, take, Some, Ok, Err, Result}
 use Rattle.tariff.specs.Meaning.{Meaning}
-use Rattle.book.specs.Zone.{Tables, preparing, launched, levied, State, Answer, state_after}
+use Rattle.book.specs.Zone.{Tables, preparing, launched, levied, State, Answer, state_after, strip_after}
 use Rattle.book.specs.Calls.{Call}
 use Rattle.book.specs.Tally.{Made}
-use Rattle.book.specs.Life.{Life, made}
+use Rattle.book.specs.Life.{Life, made, answer_to}
 use Rattle.book.specs.Cuts.{Cut}
 use Rattle.book.specs.Laws.{Accounted, ShownApart}
 use Rattle.book.specs.declared.lines.Line.{Line}
@@ -54,3 +54,9 @@ CutsFairly m s date operator rate (Ok effect) =
     (calls : List Made) → Life m calls s → (parts : List (List Line)) → Cut m date operator rate s parts → (object : ℕ) →
     ShownApart (length parts) Charge operator object effect.lines parts × ShownApart (length parts) Contribution operator object effect.lines parts
 CutsFairly m s date operator rate (Err refusal) = Unit {0}
+
+-- A call is answered as its definition says, on a strip: its lines stand at the strip's start, and every life goes on by it.
+pub record IsAnswered (m : Meaning) (s : State) (call : Call) (before after : List Line) (answer : Answer) : Type 0 where
+  pub given : answer_to m s (length before) call ≡ Some answer
+  pub strip : after ≡ strip_after before answer
+  pub life : LivesOn m s call answer

@@ -47,7 +47,7 @@ impl LaunchedZone {
 }
 
 impl LaunchedZone {
-    ghost use Rattle.book.specs.Promises.{launched_on, levied_on, written_answer, LivesOn, CutsFairly};
+    ghost use Rattle.book.specs.Promises.{launched_on, levied_on, written_answer, LivesOn, CutsFairly, IsAnswered};
 
     // An operator commits itself to a rate and is billed for every object; the levy is to be shared out.
     pub fn commitment<T: Tariff>(
@@ -60,10 +60,10 @@ impl LaunchedZone {
         operator: u32,
         rate: u32,
     ) -> Result<Written<OpenLevy>, Refused<LaunchedZone>>
-        ensures answer { written_answer levied_on (tables roll.now register.now) strip.new result ≡ billing (T.meaning sheet.now) self.figures self.launch_date (tables roll.now register.now) (length strip.old) (commitment_event date operator rate) }
-        ensures strip { strip.new ≡ strip_after strip.old (billing (T.meaning sheet.now) self.figures self.launch_date (tables roll.now register.now) (length strip.old) (commitment_event date operator rate)) }
+        ensures call { let t = tables roll.now register.now in
+            IsAnswered (T.meaning sheet.now) (launched_on self t) (call_commitment date operator rate) strip.old strip.new
+            (written_answer levied_on t strip.new result) }
         ensures kept { IfErr result (λ back. back.kept ≡ self) }
-        ensures life { LivesOn (T.meaning sheet.now) (launched_on self (tables roll.now register.now)) (call_commitment date operator rate) (written_answer levied_on (tables roll.now register.now) strip.new result) }
     {
         let event = Event {
             change: Change::Commitment,
@@ -85,11 +85,13 @@ impl LaunchedZone {
         operator: u32,
         rate: u32,
     ) -> Result<Written<OpenLevy>, Refused<LaunchedZone>>
-        ensures answer { written_answer levied_on (tables roll.now register.now) strip.new result ≡ billing (T.meaning sheet.now) self.figures self.launch_date (tables roll.now register.now) (length strip.old) (raise_event date operator rate) }
-        ensures strip { strip.new ≡ strip_after strip.old (billing (T.meaning sheet.now) self.figures self.launch_date (tables roll.now register.now) (length strip.old) (raise_event date operator rate)) }
+        ensures call { let t = tables roll.now register.now in
+            IsAnswered (T.meaning sheet.now) (launched_on self t) (call_raise date operator rate) strip.old strip.new
+            (written_answer levied_on t strip.new result) }
         ensures kept { IfErr result (λ back. back.kept ≡ self) }
-        ensures life { LivesOn (T.meaning sheet.now) (launched_on self (tables roll.now register.now)) (call_raise date operator rate) (written_answer levied_on (tables roll.now register.now) strip.new result) }
-        ensures cut { CutsFairly (T.meaning sheet.now) (launched_on self (tables roll.now register.now)) date operator rate (written_answer levied_on (tables roll.now register.now) strip.new result) }
+        ensures cut { let t = tables roll.now register.now in
+            CutsFairly (T.meaning sheet.now) (launched_on self t) date operator rate
+            (written_answer levied_on t strip.new result) }
     {
         let event = Event {
             change: Change::Raise,

@@ -1,4 +1,5 @@
-use Rattle.std.proofs.Common.{length, refl}
+use Rattle.std.proofs.Common.{length, Some, refl, sym, ap, ◌∙◌}
+use Rattle.book.specs.Zone.{strip_after}
 use Rattle.book.specs.Calls.{commitment, commitment_event}
 use Rattle.book.specs.Answers.{billing}
 use Rattle.book.specs.Passing.{tables}
@@ -15,8 +16,6 @@ returns g c =
     let places = length c.args.strip.now in
     let v = commitment_event c.args.date c.args.operator c.args.rate in
     record {
-      answer = c.billed.ensures.answer;
-      strip = c.billed.ensures.strip;
       kept = c.billed.ensures.kept;
-      life = lives_on m law (launched_on zone t) places (commitment c.args.date c.args.operator c.args.rate) (billing m zone.figures zone.launch_date t places v) _ refl c.billed.ensures.answer;
+      call = record { given = ap Some (sym c.billed.ensures.answer); strip = c.billed.ensures.strip ∙ ap (strip_after c.args.strip.now) (sym c.billed.ensures.answer); life = lives_on m law (launched_on zone t) places (commitment c.args.date c.args.operator c.args.rate) (billing m zone.figures zone.launch_date t places v) _ refl c.billed.ensures.answer };
     }
