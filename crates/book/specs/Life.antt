@@ -15,25 +15,22 @@ use Rattle.book.specs.declared.zone.Event.{Event}
 abbrev pub answer_to_event : Meaning → Figures → Tables → ℕ → Event → Phase → Option Answer
 answer_to_event m f t places v preparing = Some (subscription f t v)
 answer_to_event m f t places v (launched date) = Some (billing m f date t places v)
-answer_to_event m f t places v (levied date w) = None
+answer_to_event m f t places v _ = None
 
 -- A zone in preparation is launched.
 abbrev pub answer_to_launch : Figures → Tables → ℕ → Phase → Option Answer
 answer_to_launch f t date preparing = Some (launching f t date)
-answer_to_launch f t date (launched day) = None
-answer_to_launch f t date (levied day v) = None
+answer_to_launch f t date _ = None
 
 -- Only a launched zone takes objects.
 abbrev pub answer_to_object : Meaning → Figures → Tables → ℕ → RegisterEntry → Phase → Option Answer
-answer_to_object m f t places o preparing = None
 answer_to_object m f t places o (launched date) = Some (installation m f date t places o)
-answer_to_object m f t places o (levied date v) = None
+answer_to_object m f t places o _ = None
 
 -- An open levy takes a share-out and nothing else.
 abbrev pub answer_to_share_out : Meaning → Figures → Tables → ℕ → Phase → Option Answer
-answer_to_share_out m f t places preparing = None
-answer_to_share_out m f t places (launched date) = None
 answer_to_share_out m f t places (levied date v) = Some (settling m f date t places v)
+answer_to_share_out m f t places _ = None
 
 abbrev pub answer_to : Meaning → State → ℕ → Call → Option Answer
 answer_to m s places (commitment date operator rate) =
