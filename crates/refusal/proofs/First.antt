@@ -1,6 +1,6 @@
--- One check after the other gives the first refusal of them all.
-use Rattle.std.proofs.Common.{◌≡◌, ℕ, Bool, true, false, cond, List, [], ◌∷◌, ◌++◌, Some, None, Ok, Err, Option, sym, refl, ap, ◌∙◌, arith}
-use Rattle.refusal.specs.Checks.{Check, first, unless, passing, then_do, in_turn, all_of}
+-- One check after the other gives the first refusal of them all, and the same checks before two answers refuse alike.
+use Rattle.std.proofs.Common.{◌≡◌, ℕ, Bool, true, false, cond, List, [], ◌∷◌, Some, None, Ok, Err, Option, sym, refl, ap, arith}
+use Rattle.refusal.specs.Checks.{Check, first, unless, passing, then_do, in_turn}
 use Rattle.refusal.specs.declared.Refusal.{Refusal}
 
 -- a check alone: whether it holds, by what it gave
@@ -25,34 +25,32 @@ first_here k ks a e holds = rw holds.0 (ap Err (sym holds.1))
 pub first_next : {A : Type 0} (k : Check) (ks : List Check) (a : A) → k.holds ≡ false → unless (first ks) a ≡ unless (first (k ∷ ks)) a
 first_next k ks a passes = rw passes
 
--- the same checks before two answers
-pub still_refused : {A B : Type 0} (o : Option Refusal) (a : A) (b : B) (e : Refusal) → unless o a ≡ Err e → Err e ≡ unless o b
-still_refused None a b e is = let no : ◌≡◌ {A = ℕ} 0 1 = cc in absurd (omega arith)
-still_refused (Some r) a b e is = let same : r ≡ e = cc in ap Err (sym same)
+-- a place that passed leaves those after it, and the last one answers
+pub later_places : (place : List Check) (places : List (List Check)) (u : Unit {0}) → passing place ≡ Ok u → in_turn places (tt {0}) ≡ in_turn (place ∷ places) (tt {0})
+later_places place places u is = ap (λ r. then_do r (λ _. in_turn places (tt {0}))) (sym is)
 
-pub carried : {A B : Type 0} (o : Option Refusal) (a x : A) (f : A → B) → unless o a ≡ Ok x → Ok (f x) ≡ unless o (f a)
-carried None a x f is = let same : a ≡ x = cc in ap (λ y. Ok (f y)) (sym same)
-carried (Some r) a x f is = let no : ◌≡◌ {A = ℕ} 0 1 = cc in absurd (omega arith)
+pub last_place : (place : List Check) → passing place ≡ in_turn (place ∷ []) (tt {0})
+last_place place = go (first place)
+  where
+    go : (o : Option Refusal) → unless o (tt {0}) ≡ then_do (unless o (tt {0})) (λ _. Ok (tt {0}))
+    go None = refl
+    go (Some r) = refl
 
--- the first of two lists of checks
-abbrev or_first : Option Refusal → Option Refusal → Option Refusal
-or_first None p = p
-or_first (Some r) p = Some r
+-- the same places before two answers
+pub still_refused : {A B : Type 0} (places : List (List Check)) (a : A) (b : B) (e : Refusal) → in_turn places a ≡ Err e → Err e ≡ in_turn places b
+still_refused [] a b e is = let no : ◌≡◌ {A = ℕ} 0 1 = cc in absurd (omega arith)
+still_refused {A = A} {B = B} (place ∷ places) a b e is = go (first place) (still_refused places a b e) is
+  where
+    go : (o : Option Refusal) → (in_turn places a ≡ Err e → Err e ≡ in_turn places b) →
+        then_do (unless o (tt {0})) (λ _. in_turn places a) ≡ Err e → Err e ≡ then_do (unless o (tt {0})) (λ _. in_turn places b)
+    go None rest h = rest h
+    go (Some r) rest h = let same : r ≡ e = cc in ap Err (sym same)
 
-first_by : (b : Bool) (r : Refusal) (o p q : Option Refusal) → q ≡ or_first o p → cond b (Some r) q ≡ or_first (cond b (Some r) o) p
-first_by true r o p q is = refl
-first_by false r o p q is = is
-
-first_append : (ks ls : List Check) → first (ks ++ ls) ≡ or_first (first ks) (first ls)
-first_append [] ls = refl
-first_append (k ∷ ks) ls = first_by k.holds k.says (first ks) (first ls) (first (ks ++ ls)) (first_append ks ls)
-
--- checks made in turn give the first refusal of them all
-then_first : (o p : Option Refusal) → then_do (unless o (tt {0})) (λ _. unless p (tt {0})) ≡ unless (or_first o p) (tt {0})
-then_first None p = refl
-then_first (Some r) p = refl
-
-pub in_turn_is : (ks : List Check) (more : List (List Check)) → in_turn ks more ≡ passing (all_of ks more)
-in_turn_is ks [] = refl
-in_turn_is ks (ls ∷ more) =
-    ap (λ r. then_do (passing ks) (λ _. r)) (in_turn_is ls more) ∙ then_first (first ks) (first (all_of ls more)) ∙ ap (λ o. unless o (tt {0})) (sym (first_append ks (all_of ls more)))
+pub carried : {A B : Type 0} (places : List (List Check)) (a x : A) (f : A → B) → in_turn places a ≡ Ok x → Ok (f x) ≡ in_turn places (f a)
+carried [] a x f is = let same : a ≡ x = cc in ap (λ y. Ok (f y)) (sym same)
+carried (place ∷ places) a x f is = go (first place) (carried places a x f) is
+  where
+    go : (o : Option Refusal) → (in_turn places a ≡ Ok x → Ok (f x) ≡ in_turn places (f a)) →
+        then_do (unless o (tt {0})) (λ _. in_turn places a) ≡ Ok x → Ok (f x) ≡ then_do (unless o (tt {0})) (λ _. in_turn places (f a))
+    go None rest h = rest h
+    go (Some r) rest h = let no : ◌≡◌ {A = ℕ} 0 1 = cc in absurd (omega arith)

@@ -1,12 +1,11 @@
-use Rattle.std.proofs.Common.{◌≡◌, length, Ok, refl, ap, ◌∙◌, arith}
-use Rattle.refusal.specs.Checks.{first}
+use Rattle.std.proofs.Common.{◌≡◌, length, Ok, sym, refl, ap, ◌∙◌, arith}
 use Rattle.refusal.proofs.First.{carried, still_refused}
 use Rattle.book.specs.Members.{addition}
 use Rattle.book.specs.Zone.{strip_after, counted_members}
 use Rattle.book.specs.Answers.{added, billing_checks, billing_effect}
 use Rattle.book.specs.Increases.{addition_in}
 use Rattle.book.specs.Passing.{tables}
-use Rattle.book.proofs.Billed.{Billable, billable, billed_is, written_is, room_for, turned}
+use Rattle.book.proofs.Billed.{Billable, billable, billed_is, written_is, room_for}
 use Rattle.book.proofs.launched.LaunchedZone.billed.Goals as goal
 use Rattle.book.proofs.launched.LaunchedZone.billed.Goals.{In-Ok, After-increase_of-increase}
 use Rattle.book.proofs.launched.LaunchedZone.billed.Given as given
@@ -16,13 +15,16 @@ able g c =
     let m = g.T.Tariff.meaning c.args.sheet.now in
     let t = tables c.args.roll.now c.args.register.now in
     billable m c.args.self.figures c.args.self.launch_date t (length c.args.strip.now) c.args.event _
-    (turned m c.args.self.figures c.args.self.launch_date t (length c.args.strip.now) c.args.event _ c.check_billing.ensures.answer ∙ c.in-Ok.is)
+    (sym c.check_billing.ensures.answer ∙ c.in-Ok.is)
 
 -- the code's increase is what the event adds
 adds : (g : given.Over) (c : After-increase_of-increase g) → addition_in c.increase_of-increase.result ≡ added c.args.self.figures c.args.self.launch_date (tables c.args.roll.now c.args.register.now) c.args.event
 adds g c =
     let members = counted_members c.args.self.figures (tables c.args.roll.now c.args.register.now) in
     c.increase_of-increase.ensures.value ∙ ap (λ n. addition n c.args.event members) c.year_index-index.ensures.value
+
+pub increase_of-increase-requires-clause-rate : goal.increase_of-increase-requires-clause-rate
+increase_of-increase-requires-clause-rate g c = (able g (goal.at.increase_of-increase-requires-clause-rate g c).In-Ok).rate
 
 pub increase_of-increase-requires-clause-index : goal.increase_of-increase-requires-clause-index
 increase_of-increase-requires-clause-index g c =
@@ -45,7 +47,7 @@ returns-in-Ok g c =
     let places = length c.args.strip.now in
     let v = c.args.event in
     let is = adds g (goal.at.returns-in-Ok g c).After-increase_of-increase in
-    let accepted = carried (first (billing_checks m f d t places v)) tt _ (λ _. billing_effect m f d t v) (turned m f d t places v _ c.check_billing.ensures.answer ∙ c.in-Ok.is) in
+    let accepted = carried (billing_checks m f d t places v) tt _ (λ _. billing_effect m f d t v) (sym c.check_billing.ensures.answer ∙ c.in-Ok.is) in
     record {
       answer = ap Ok (billed_is m f d t places v _ c.args.strip.now _ _ is c.bill-lines.ensures.number c.bill-lines.ensures.strip) ∙ accepted;
       strip = written_is m f d t places v _ c.args.strip.now _ is c.bill-lines.ensures.strip ∙ ap (strip_after c.args.strip.now) accepted;
@@ -60,5 +62,5 @@ returns-in-Err g c =
     let t = tables c.args.roll.now c.args.register.now in
     let places = length c.args.strip.now in
     let v = c.args.event in
-    let refused = still_refused (first (billing_checks m f d t places v)) tt (billing_effect m f d t v) _ (turned m f d t places v _ c.check_billing.ensures.answer ∙ c.in-Err.is) in
+    let refused = still_refused (billing_checks m f d t places v) tt (billing_effect m f d t v) _ (sym c.check_billing.ensures.answer ∙ c.in-Err.is) in
     record { answer = refused; strip = ap (strip_after c.args.strip.now) refused; kept = refl }
