@@ -26,20 +26,20 @@ impl PreparedZone {
     // A launch.
     pub(crate) fn check_launch(&self, lent: Tables<'_>, date: u32) -> Result<(), Refusal>
         ensures answer { let t = tables_in lent.entry in
-            result ≡ in_turn (launching_checks self.now.figures t date) tt }
+            result ≡ in_turn (launching_checks self.now.core.figures t date) tt }
     {
-        check_tables(&self.figures, lent)?;
-        check_date(&self.figures, date)
+        check_tables(&self.core.figures, lent)?;
+        check_date(&self.core.figures, date)
     }
 
     // A commitment or raise before the launch.
     pub(crate) fn check_subscription(&self, lent: Tables<'_>, event: &Event) -> Result<(), Refusal>
         ensures answer { let t = tables_in lent.entry in
-            result ≡ in_turn (subscription_checks self.now.figures t event.now) tt }
+            result ≡ in_turn (subscription_checks self.now.core.figures t event.now) tt }
     {
-        check_tables(&self.figures, lent)?;
-        check_date(&self.figures, event.date)?;
-        check_roll(&self.figures, lent, event)
+        check_tables(&self.core.figures, lent)?;
+        check_date(&self.core.figures, event.date)?;
+        check_roll(&self.core.figures, lent, event)
     }
 }
 
@@ -53,15 +53,15 @@ impl LaunchedZone {
         object: &RegisterEntry,
     ) -> Result<(), Refusal>
         ensures answer { let m = T.meaning sheet.now in
-            let f = self.now.figures in
+            let f = self.now.core.figures in
             let t = tables_in lent.entry in
             result ≡ in_turn (installation_checks m f self.now.launch_date t places object.now) tt }
     {
-        check_tables(&self.figures, lent)?;
-        check_launched_date(&self.figures, self.launch_date, object.installed)?;
-        check_register(&self.figures, lent, object)?;
+        check_tables(&self.core.figures, lent)?;
+        check_launched_date(&self.core.figures, self.launch_date, object.installed)?;
+        check_register(&self.core.figures, lent, object)?;
         check_prices(sheet, slice::from_ref(object))?;
-        check_strip(places, self.figures.operators)
+        check_strip(places, self.core.figures.operators)
     }
 
     // A commitment or raise that bills.
@@ -73,14 +73,14 @@ impl LaunchedZone {
         event: &Event,
     ) -> Result<(), Refusal>
         ensures answer { let m = T.meaning sheet.now in
-            let f = self.now.figures in
+            let f = self.now.core.figures in
             let t = tables_in lent.entry in
             result ≡ in_turn (billing_checks m f self.now.launch_date t places event.now) tt }
     {
-        check_tables(&self.figures, lent)?;
-        check_launched_date(&self.figures, self.launch_date, event.date)?;
-        check_roll(&self.figures, lent, event)?;
-        let objects = &lent.register[..self.figures.objects];
+        check_tables(&self.core.figures, lent)?;
+        check_launched_date(&self.core.figures, self.launch_date, event.date)?;
+        check_roll(&self.core.figures, lent, event)?;
+        let objects = &lent.register[..self.core.figures.objects];
         check_sheet(sheet, event.date, objects)?;
         check_strip(places, lines_billed(objects, event.date))
     }
@@ -95,17 +95,17 @@ impl OpenLevy {
         places: usize,
     ) -> Result<(), Refusal>
         ensures answer { let m = T.meaning sheet.now in
-            let f = self.now.figures in
+            let f = self.now.zone.core.figures in
             let t = tables_in lent.entry in
-            result ≡ in_turn (settling_checks m f self.now.launch_date t places self.now.event) tt }
+            result ≡ in_turn (settling_checks m f self.now.zone.launch_date t places self.now.event) tt }
     {
-        check_tables(&self.figures, lent)?;
-        check_roll(&self.figures, lent, &self.event)?;
+        check_tables(&self.zone.core.figures, lent)?;
+        check_roll(&self.zone.core.figures, lent, &self.event)?;
         let operators = Operators {
-            items: &lent.roll[..self.figures.operators],
+            items: &lent.roll[..self.zone.core.figures.operators],
         };
         let objects = Objects {
-            items: &lent.register[..self.figures.objects],
+            items: &lent.register[..self.zone.core.figures.objects],
         };
         check_prices(sheet, objects.items)?;
         let increase = increase_of(&self.event, self.index(), operators.items);

@@ -11,7 +11,7 @@ use Rattle.book.proofs.launched.LaunchedZone.check_billing.Goals as goal
 pub returns : goal.returns
 returns g c =
     let m = g.T.Tariff.meaning c.args.sheet.now in
-    let f = c.args.self.now.figures in
+    let f = c.args.self.now.core.figures in
     let t = tables_in c.args.lent in
     let v = c.args.event.now in
     let objects = counted_register f t in

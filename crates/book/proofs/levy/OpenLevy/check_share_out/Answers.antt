@@ -14,7 +14,7 @@ use Rattle.book.proofs.levy.OpenLevy.check_share_out.Goals as goal
 pub returns : goal.returns
 returns g c =
     let m = g.T.Tariff.meaning c.args.sheet.now in
-    let f = c.args.self.now.figures in
+    let f = c.args.self.now.zone.core.figures in
     let t = tables_in c.args.lent in
     let objects = counted_register f t in
     let members = counted_members f t in
@@ -22,7 +22,7 @@ returns g c =
     let roll = sym c.check_roll.ensures.answer ∙ c.in_ok-check_roll.was in
     let prices = sym c.check_prices.ensures.answer ∙ c.in_ok-check_prices.was in
     let adds = c.increase_of-increase.ensures.value ∙ ap (λ n. addition n c.args.self.now.event members) c.index.ensures.value in
-    let due = length (settling_lines m f c.args.self.now.launch_date t c.args.self.now.event) in
+    let due = length (settling_lines m f c.args.self.now.zone.launch_date t c.args.self.now.event) in
     let from_strip = strip_checks c.args.places due ∷ [] in
     let from_sheet = price_checks m objects ∷ from_strip in
     let from_roll = roll_checks f t c.args.self.now.event ∷ from_sheet in

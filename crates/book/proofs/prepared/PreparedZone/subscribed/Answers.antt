@@ -9,15 +9,17 @@ use Rattle.book.proofs.prepared.PreparedZone.subscribed.Goals as goal
 
 pub increase_of-increase-requires-clause-rate : goal.increase_of-increase-requires-clause-rate
 increase_of-increase-requires-clause-rate c =
+    let f = c.args.self.core.figures in
     let t = tables c.args.roll.now c.args.register.now in
-    (subscribable c.args.self.figures t c.args.event _ c.args.self.few_operators (sym c.check_subscription.ensures.answer ∙ c.in-Ok.is)).rate
+    let v = c.args.event in
+    (subscribable f t v _ c.args.self.core.few_operators (sym c.check_subscription.ensures.answer ∙ c.in-Ok.is)).rate
 
 pub enter-operators-requires : goal.enter-operators-requires
 enter-operators-requires c =
-    let f = c.args.self.figures in
+    let f = c.args.self.core.figures in
     let t = tables c.args.roll.now c.args.register.now in
     let v = c.args.event in
-    let s = subscribable f t v _ c.args.self.few_operators (sym c.check_subscription.ensures.answer ∙ c.in-Ok.is) in
+    let s = subscribable f t v _ c.args.self.core.few_operators (sym c.check_subscription.ensures.answer ∙ c.in-Ok.is) in
     let is = c.increase_of-increase.ensures.value in
     record {
       counted = s.tables_in.roll_long;
@@ -27,19 +29,19 @@ enter-operators-requires c =
 
 pub invariant_of-result : goal.invariant_of-result
 invariant_of-result c =
-    let f = c.args.self.figures in
+    let f = c.args.self.core.figures in
     let t = tables c.args.roll.now c.args.register.now in
     let v = c.args.event in
-    let s = subscribable f t v _ c.args.self.few_operators (sym c.check_subscription.ensures.answer ∙ c.in-Ok.is) in
+    let s = subscribable f t v _ c.args.self.core.few_operators (sym c.check_subscription.ensures.answer ∙ c.in-Ok.is) in
     let is = c.increase_of-increase.ensures.value in
     record {
       few_operators = rw c.enter-operators.ensures.number (room_of _ _ (counted_roll f t) 16 is s.fits.few);
-      few_objects = c.args.self.few_objects;
+      few_objects = c.args.self.core.few_objects;
     }
 
 pub returns-in-Ok : goal.returns-in-Ok
 returns-in-Ok c =
-    let f = c.args.self.figures in
+    let f = c.args.self.core.figures in
     let t = tables c.args.roll.now c.args.register.now in
     let v = c.args.event in
     let is = c.increase_of-increase.ensures.value in
@@ -51,7 +53,7 @@ returns-in-Ok c =
 
 pub returns-in-Err : goal.returns-in-Err
 returns-in-Err c =
-    let f = c.args.self.figures in
+    let f = c.args.self.core.figures in
     let t = tables c.args.roll.now c.args.register.now in
     let v = c.args.event in
     record {
