@@ -3,8 +3,8 @@
 
     python3 tools/events_model.py < crates/events/stdin > crates/events/stdout
 
-It is written from docs/FORMAT.md alone and shares nothing with the programs. It works the check out as one number of 510
-bytes, where the programs go byte by byte.
+It is written from docs/FORMAT.md alone and shares nothing with the programs. It works the check out as one number of
+510 bytes, where the programs go byte by byte.
 """
 import sys
 
@@ -59,7 +59,7 @@ class Entry:
 
 
 def entries_of(data):
-    """Block, place, entry and fault, for each entry; after a file or block that is refused, with no entry, nothing more."""
+    """Block, place, entry and fault of each entry. A file or block that is refused has no entry, and is the last."""
     if len(data) % BLOCK or len(data) > MOST_BLOCKS * BLOCK:
         yield 0, 0, None, 19
         return
