@@ -3,8 +3,8 @@
 
     python3 tools/events_model.py < crates/events/stdin > crates/events/stdout
 
-It is written from docs/FORMAT.md alone and shares nothing with the programs. It works the check out as one number of
-510 bytes, where the programs go byte by byte.
+It is written from docs/FORMAT.md and the sentences of docs/RULES.md, and shares nothing with the programs. It works the
+check out as one number of 510 bytes, where the programs go byte by byte.
 """
 import sys
 
