@@ -230,12 +230,13 @@ def cases():
         "three_alike": blocks(weighs_alike(3)),
         "nobody_before": blocks(weighs_alike(0)),
         "full": full_file(),
+        "twenty_years": twenty_years(),
     }
 
 
 def files():
     """Each file that is made here, by its path under crates/."""
-    made = {"statement/stdin": blocks(SMALL), "twenty_years/stdin": twenty_years()}
+    made = {"statement/stdin": blocks(SMALL)}
     made |= {"statement_cases/data/" + name: content for name, content in cases().items()}
     made["statement_cases/args"] = "".join(name + "\n" for name in cases()).encode("ascii")
     return made
