@@ -6,7 +6,8 @@ use Rattle.tariff.specs.Meaning.{Meaning}
 abbrev pub coarse_rounded : ℕ → ℕ → ℕ
 coarse_rounded n d = cond (nat_lt n d) 0 ((n + (d - 1)) / d)
 
--- A tranche costs 9 micro-euros, a tenth of it later; a tenth of it goes to the earlier operators; every year weighs 1.
+-- A tranche costs 9 micro-euros, a tenth of it later; a tenth of it goes to the earlier operators;
+-- every year weighs 1.
 abbrev pub coarse : Meaning
 coarse = record {
   price = λ kind installed. Some 9;

@@ -2,7 +2,8 @@
 --   blank       an empty zone over tables of some places, whose content no zone counts
 --   Step        a call, and the places of the strip that it is given
 --   effect_at   state and lines of a step that is accepted
---   told        what each step is answered: 0 where it is accepted, else the refusal's number, none where it is not taken
+--   told        what each step is answered: 0 where it is accepted, else the refusal's number;
+--               none where it is not taken
 --   lived       the state after all steps
 --   calls       the calls made, the newest first
 use Rattle.std.specs.Prelude.{ℕ, List, [], ◌∷◌, replicate, Some, None, Ok, Err, Option}
@@ -27,7 +28,9 @@ blank_object = record { object = 98; kind = ThirdParty; installed = 3; dwellings
 -- An empty zone over tables of some places.
 abbrev pub blank : ℕ → ℕ → State
 blank operators objects =
-    empty_state (record { roll = replicate operators blank_operator; register = replicate objects blank_object })
+    let roll = replicate operators blank_operator in
+    let register = replicate objects blank_object in
+    empty_state (record { roll = roll; register = register })
 
 pub record Step : Type 0 where
   pub call : Call

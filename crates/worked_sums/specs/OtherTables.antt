@@ -1,5 +1,5 @@
--- Examples that compute: tables and figures at the limits, and tables other than those that an event
--- was billed on.
+-- Examples that compute: tables and figures at the limits, and tables other than those that an
+-- event was billed on.
 use Rattle.std.specs.Prelude.{◌≡◌, ℕ, ◌+◌, List, [], ◌∷◌, replicate, Some, Option, map}
 use Rattle.tariff.specs.declared.kinds.Kind.TheVariants.{Covered}
 use Rattle.book.specs.Zone.{State, with_totals}
@@ -27,22 +27,13 @@ object_with number installed dwellings =
 
 -- A state with another roll, another register, other totals.
 abbrev pub on_roll : State → List RollEntry → State
-on_roll s roll = record {
-  figures = s.figures;
-  phase = s.phase;
-  tables = record { roll = roll; register = s.tables.register };
-}
+on_roll s roll = record s { tables = record s.tables { roll = roll } }
 
 abbrev pub on_register : State → List RegisterEntry → State
-on_register s register = record {
-  figures = s.figures;
-  phase = s.phase;
-  tables = record { roll = s.tables.roll; register = register };
-}
+on_register s register = record s { tables = record s.tables { register = register } }
 
 abbrev pub on_totals : State → Totals → State
-on_totals s totals =
-    record { figures = with_totals totals s.figures; phase = s.phase; tables = s.tables }
+on_totals s totals = record s { figures = with_totals totals s.figures }
 
 abbrev pub totals_with : ℕ → ℕ → ℕ → ℕ → Totals
 totals_with contributed credited unshared lines = record {
@@ -52,20 +43,20 @@ totals_with contributed credited unshared lines = record {
   credit_lines = lines;
 }
 
--- An opening on these rolls, registers and totals, and a share-out on these rolls.
+-- What an opening is answered, and on each of these rolls, registers and totals.
+abbrev pub opening_told : State → Option ℕ
+opening_told s = said (answer_at sheet_up s (opening 20180101 9 1 on 2))
+
 abbrev pub on_rolls : List (List RollEntry) → List (Option ℕ)
-on_rolls rolls =
-    map
-    (λ roll. said (answer_at sheet_up (on_roll launched_zone roll) (opening 20180101 9 1 on 2)))
-    rolls
+on_rolls rolls = map (λ roll. opening_told (on_roll launched_zone roll)) rolls
 
 abbrev pub on_registers : List (List RegisterEntry) → List (Option ℕ)
-on_registers registers =
-    map
-    (λ register. said
-    (answer_at sheet_up (on_register one_object register) (opening 20180101 9 1 on 2)))
-    registers
+on_registers registers = map (λ register. opening_told (on_register one_object register)) registers
 
+abbrev pub on_each_totals : List Totals → List (Option ℕ)
+on_each_totals each = map (λ totals. opening_told (on_totals launched_zone totals)) each
+
+-- What a levy's share-out is answered on each of these rolls.
 abbrev pub shares_on : State → List (List RollEntry) → List (Option ℕ)
 shares_on levy rolls =
     map (λ roll. said (answer_at sheet_up (on_roll levy roll) (share_out on 9))) rolls
@@ -73,6 +64,13 @@ shares_on levy rolls =
 -- The first operator raises from 4 to 9 tranches.
 abbrev pub raise_levy : State
 raise_levy = lived sheet_up one_object (raise 20200101 1 9 on 2 ∷ [])
+
+-- Its share-out on a roll where the first operator has two tranches more, of a later index.
+abbrev pub later_roll : List RollEntry
+later_roll = operator_with 1 4 2 0 ∷ operator_with 2 2 0 0 ∷ []
+
+abbrev pub later_shared : State
+later_shared = lived sheet_up (on_roll raise_levy later_roll) (share_out on 2 ∷ [])
 
 -- The limit of an amount.
 abbrev pub most : ℕ
@@ -100,11 +98,8 @@ pub record TablesLimited : Type 0 where
       (object_with 7 20180101 10001 ∷ object_with 0 0 0 ∷ []) ∷ [] ∷ []) ≡
       Some 0 ∷ Some 1 ∷ Some 1 ∷ Some 1 ∷ Some 1 ∷ Some 1 ∷ []
   -- the largest totals, and one above it in each place
-  pub totals :
-      map
-      (λ totals. said
-      (answer_at sheet_up (on_totals launched_zone totals) (opening 20180101 9 1 on 2)))
-      (totals_with most most most most ∷
+  pub totals : on_each_totals (
+      totals_with most most most most ∷
       totals_with (most + 1) 0 0 0 ∷ totals_with 0 (most + 1) 0 0 ∷
       totals_with 0 0 (most + 1) 0 ∷ totals_with 0 0 0 (most + 1) ∷ []) ≡
       Some 0 ∷ Some 1 ∷ Some 1 ∷ Some 1 ∷ Some 1 ∷ []
@@ -123,15 +118,5 @@ pub record TablesLimited : Type 0 where
       Some 0 ∷ Some 8 ∷ Some 9 ∷ []
   -- it takes k from the roll handed in, 3 from 6 tranches, and tranches of a later index weigh
   -- nothing
-  pub taken_from_roll :
-      moved
-      (lived sheet_up
-      (on_roll raise_levy (operator_with 1 4 2 0 ∷ operator_with 2 2 0 0 ∷ []))
-      (share_out on 2 ∷ [])).figures.totals ≡
-      932850000 ∷ 932850000 ∷ 0 ∷ 2 ∷ []
-  pub later_tranches :
-      balances
-      (lived sheet_up
-      (on_roll raise_levy (operator_with 1 4 2 0 ∷ operator_with 2 2 0 0 ∷ []))
-      (share_out on 2 ∷ [])) ≡
-      621900000 ∷ 310950000 ∷ []
+  pub taken_from_roll : moved later_shared.figures.totals ≡ 932850000 ∷ 932850000 ∷ 0 ∷ 2 ∷ []
+  pub later_tranches : balances later_shared ≡ 621900000 ∷ 310950000 ∷ []

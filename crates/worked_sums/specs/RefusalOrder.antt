@@ -13,11 +13,7 @@ each_told m s places asked = map (λ call. said (answer_at m s (call on places))
 
 -- The same zone with tables too short for what it counts.
 abbrev pub short_tables : State
-short_tables = record {
-  figures = launched_zone.figures;
-  phase = launched_zone.phase;
-  tables = record { roll = []; register = [] };
-}
+short_tables = record launched_zone { tables = record { roll = []; register = [] } }
 
 -- A roll of four places, all counted.
 abbrev pub full_roll : State

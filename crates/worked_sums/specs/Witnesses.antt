@@ -53,8 +53,8 @@ both_ways made kind =
     list_any (λ x. (kind_number x.call == kind) && x.refused) made &&
     list_any (λ x. (kind_number x.call == kind) && not x.refused) made
 
--- The story is a life over a lawful sheet with every kind of call, accepted and refused; its accounts
--- stand and its numbers fit.
+-- The story is a life over a lawful sheet with every kind of call, accepted and refused; its
+-- accounts stand and its numbers fit.
 pub record Story : Type 0 where
   pub lawful : Lawful sheet_down
   pub life : Life sheet_down story_calls story_end

@@ -1,5 +1,5 @@
-// The sums worked by hand: theorems over the definitions, the code run on the same examples, and lives that the laws
-// of a zone speak of.
+// The sums worked by hand: theorems over the definitions, the code run on the same examples, and
+// lives that the laws of a zone speak of.
 #![tactic(auto)]
 
 ghost use Rattle.std.specs.Prelude.{◌≡◌, [], ◌∷◌};
@@ -11,7 +11,8 @@ pub mod witnesses;
 use calendar::year_index;
 use sheet_parts::row::coefficient_after;
 
-/// The coefficients of some months, over 1,200, and the year indices of two dates after a launch on 20170315.
+/// The coefficients of some months, over 1,200, and the year indices of two dates after a launch on
+/// 20170315.
 #[derive(Clone, Copy)]
 pub struct Worked {
     /// After 0, 3, 18, 65 and 239 months, in 1,200ths.
@@ -20,7 +21,8 @@ pub struct Worked {
     pub indices: [u32; 2],
 }
 
-/// The code's answers to the worked examples, with the theorem that the definitions give the sums worked by hand.
+/// The code's answers to the worked examples, with the theorem that the definitions give the sums
+/// worked by hand.
 pub fn worked_examples() -> Worked
     ensures sums { WorkedSums }
     ensures coefficients { result.coefficients ≡ 1200 ∷ 1230 ∷ 1368 ∷ 1531 ∷ 300 ∷ [] }
