@@ -1,20 +1,28 @@
-// The sums worked by hand: one theorem over the definitions, and the code run on the same examples.
+// The sums worked by hand: theorems over the definitions, the code run on the same examples, and
+// lives that the laws of a zone speak of.
 #![tactic(auto)]
 
 ghost use Rattle.std.specs.Prelude.{◌≡◌, [], ◌∷◌};
 ghost use Rattle.worked_sums.specs.Sums.{WorkedSums};
 
+pub mod examples;
+pub mod witnesses;
+
 use calendar::year_index;
 use sheet_parts::row::coefficient_after;
 
-// The coefficients of some months, over 1,200, and the year indices of two dates after a launch on 20170315.
+/// The coefficients of some months, over 1,200, and the year indices of two dates after a launch on
+/// 20170315.
 #[derive(Clone, Copy)]
 pub struct Worked {
+    /// After 0, 3, 18, 65 and 239 months, in 1,200ths.
     pub coefficients: [u32; 5],
+    /// Of the day after the launch, and of the next year's first day.
     pub indices: [u32; 2],
 }
 
-// The code's answers to the worked examples, with the theorem that the definitions give the sums worked by hand.
+/// The code's answers to the worked examples, with the theorem that the definitions give the sums
+/// worked by hand.
 pub fn worked_examples() -> Worked
     ensures sums { WorkedSums }
     ensures coefficients { result.coefficients ≡ 1200 ∷ 1230 ∷ 1368 ∷ 1531 ∷ 300 ∷ [] }

@@ -2,10 +2,10 @@
 use Rattle.std.proofs.Common.{refl}
 use Rattle.sheet_parts.specs.Rounding.{five_up}
 use Rattle.sheet_parts.specs.Row.{coefficient_after}
-use Rattle.book.specs.Sheets.{holed_sheet}
-use Rattle.book.specs.Cases.{AmountsWorked}
-use Rattle.book.specs.Order.{RefusalsInOrder}
-use Rattle.book.specs.Foreign.{TablesLimited}
+use Rattle.worked_sums.specs.Sheets.{holed_sheet}
+use Rattle.worked_sums.specs.Cases.{AmountsWorked}
+use Rattle.worked_sums.specs.RefusalOrder.{RefusalsInOrder}
+use Rattle.worked_sums.specs.OtherTables.{TablesLimited}
 
 pub amounts_worked : AmountsWorked 15
 unfolding coefficient_after

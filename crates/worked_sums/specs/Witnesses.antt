@@ -2,30 +2,34 @@
 --   story        a life with an accepted and a refused call of every kind
 --   before_cut   a state in which an operator of 2 tranches raises to 5, at once or in three parts
 --   Story, Parts the laws applied to both
-use Rattle.std.specs.Prelude.{◌≡◌, ℕ, Bool, true, false, not, ◌&&◌, List, [], ◌∷◌, Some, None, Ok, Err, Option, ◌==◌, map}
+use Rattle.std.specs.Prelude.{◌≡◌, ℕ, Bool, true, false, not, ◌&&◌, List, [], ◌∷◌, ◌==◌, map}
 use Rattle.std.specs.List.{list_any}
-use Rattle.tariff.specs.Meaning.{Meaning, Lawful}
+use Rattle.tariff.specs.Meaning.{Lawful}
 use Rattle.book.specs.Limits.{most_amount}
 use Rattle.book.specs.Lines.{unit_shown}
-use Rattle.book.specs.Zone.{State, Effect, Answer}
+use Rattle.book.specs.Zone.{State, Effect}
 use Rattle.book.specs.Calls.{Call, commitment, raise, launch, opening, cabling, share_out}
 use Rattle.book.specs.Tally.{Made}
 use Rattle.book.specs.Life.{Life}
 use Rattle.book.specs.Cuts.{Accepts, Cut}
 use Rattle.book.specs.Laws.{Accounted, ShownApart}
 use Rattle.book.specs.Grounds.{NumbersFit}
-use Rattle.book.specs.Runs.{Step, ◌on◌, answer_at, lived, calls}
-use Rattle.book.specs.Sheets.{blank}
-use Rattle.book.specs.Cases.{sheet_down}
+use Rattle.book.specs.Runs.{blank, Step, ◌on◌, effect_at, lived, calls}
 use Rattle.book.specs.declared.lines.Line.{Line}
 use Rattle.book.specs.declared.lines.Nature.TheVariants.{Charge, Contribution}
+use Rattle.worked_sums.specs.Sheets.{sheet_down}
 
+-- The calls in preparation, the launch, what is installed, then the calls that bill, with their
+-- share-outs.
 abbrev pub story : List Step
 story =
-    commitment 20170301 1 4 on 0 ∷ commitment 20170301 1 2 on 0 ∷ raise 20170302 1 5 on 0 ∷ raise 20170301 1 6 on 0 ∷
+    commitment 20170301 1 4 on 0 ∷ commitment 20170301 1 2 on 0 ∷
+    raise 20170302 1 5 on 0 ∷ raise 20170301 1 6 on 0 ∷
     commitment 20170302 2 2 on 0 ∷ launch 20170301 on 0 ∷ launch 20170315 on 0 ∷
-    opening 20170401 7 300 on 2 ∷ opening 20170401 7 300 on 2 ∷ cabling 20170501 8 true 40 on 5 ∷ cabling 20170501 9 false 0 on 5 ∷
-    commitment 20180410 3 1 on 4 ∷ share_out on 1 ∷ share_out on 4 ∷ raise 20190101 2 3 on 4 ∷ share_out on 9 ∷
+    opening 20170401 7 300 on 2 ∷ opening 20170401 7 300 on 2 ∷
+    cabling 20170501 8 true 40 on 5 ∷ cabling 20170501 9 false 0 on 5 ∷
+    commitment 20180410 3 1 on 4 ∷ share_out on 1 ∷ share_out on 4 ∷
+    raise 20190101 2 3 on 4 ∷ share_out on 9 ∷
     commitment 20570101 4 1 on 9 ∷ raise 20190201 1 20 on 9 ∷ []
 
 abbrev pub story_calls : List Made
@@ -46,15 +50,21 @@ kind_number share_out = 6
 -- Whether calls of a kind were both accepted and refused.
 abbrev pub both_ways : List Made → ℕ → Bool
 both_ways made kind =
-    list_any (λ x. (kind_number x.call == kind) && x.refused) made && list_any (λ x. (kind_number x.call == kind) && not x.refused) made
+    list_any (λ x. (kind_number x.call == kind) && x.refused) made &&
+    list_any (λ x. (kind_number x.call == kind) && not x.refused) made
 
+-- The story is a life over a lawful sheet with every kind of call, accepted and refused; its
+-- accounts stand and its numbers fit.
 pub record Story : Type 0 where
   pub lawful : Lawful sheet_down
   pub life : Life sheet_down story_calls story_end
-  pub every_kind : map (both_ways story_calls) (1 ∷ 2 ∷ 3 ∷ 4 ∷ 5 ∷ 6 ∷ []) ≡ true ∷ true ∷ true ∷ true ∷ true ∷ true ∷ []
+  pub every_kind :
+      map (both_ways story_calls) (1 ∷ 2 ∷ 3 ∷ 4 ∷ 5 ∷ 6 ∷ []) ≡
+      true ∷ true ∷ true ∷ true ∷ true ∷ true ∷ []
   pub accounted : Accounted (λ lines. lines) sheet_down story_calls story_end
   pub fits : NumbersFit most_amount sheet_down story_end
 
+-- Two operators, the launch, a PM and a third party's site.
 abbrev pub before_steps : List Step
 before_steps =
     commitment 20170301 1 4 on 0 ∷ commitment 20170301 2 2 on 0 ∷ launch 20170315 on 0 ∷
@@ -62,14 +72,6 @@ before_steps =
 
 abbrev pub before_cut : State
 before_cut = lived sheet_down (blank 4 3) before_steps
-
-abbrev pub effect_in : Option Answer → Effect
-effect_in None = record { state = blank 0 0; lines = [] }
-effect_in (Some (Err refusal)) = record { state = blank 0 0; lines = [] }
-effect_in (Some (Ok effect)) = effect
-
-abbrev pub effect_at : Meaning → State → Step → Effect
-effect_at m s step = effect_in (answer_at m s step)
 
 -- The whole raise, and its three parts with a share-out after each of the first two.
 abbrev pub whole : Effect
@@ -100,4 +102,5 @@ pub record Parts (together each_part : ℕ) : Type 0 where
   pub cut : Cut sheet_down 20181201 2 5 before_cut parts
   pub at_once : unit_shown Charge 2 7 whole.lines ≡ together
   pub in_parts : map (unit_shown Charge 2 7) parts ≡ each_part ∷ each_part ∷ each_part ∷ []
-  pub fair : ShownApart 3 Charge 2 7 whole.lines parts × ShownApart 3 Contribution 2 7 whole.lines parts
+  pub fair :
+      ShownApart 3 Charge 2 7 whole.lines parts × ShownApart 3 Contribution 2 7 whole.lines parts
