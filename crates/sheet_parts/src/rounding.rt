@@ -16,7 +16,7 @@ fn seventh_decimal(amount: Quotient) -> u64
 // The next whole number from a seventh decimal on, else the last one.
 fn up_from(least: u64, amount: Quotient) -> u64
     requires { 0 < least }
-    ensures value { result ≡ up_if (λ decimal. nat_le least decimal) amount.numerator amount.denominator }
+    ensures value { result ≡ up_if (nat_le least) amount.numerator amount.denominator }
     ensures near { Near amount.numerator amount.denominator result }
 {
     let whole = amount.numerator / u64::from(amount.denominator);

@@ -34,8 +34,10 @@ impl<'a> DatedSheet<'a> {
         prices: &'a [Dated<Prices>],
         terms: Terms,
     ) -> Result<(), Refusal>
-        ensures answer { result ≡ making (sound prices_in_limits prices.now && terms_in_limits terms) }
-        ensures filled { OnOk result (IsSomeAnd place.new (λ sheet. dated_meaning sheet ≡ dated prices.now terms)) }
+        ensures answer { let fits = sound prices_in_limits prices.now && terms_in_limits terms in
+            result ≡ making fits }
+        ensures value { let meaning = dated prices.now terms in
+            OnOk result (IsSomeAnd place.new (λ sheet. dated_meaning sheet ≡ meaning)) }
         ensures kept { OnErr result (place.new ≡ place.old) }
     {
         let mut records = Series::empty();

@@ -28,7 +28,8 @@ impl FlatSheet {
     /// the place keeps what it held.
     pub fn fill(place: &mut Option<FlatSheet>, prices: Prices, terms: Terms) -> Result<(), Refusal>
         ensures answer { result ≡ making (prices_in_limits prices && terms_in_limits terms) }
-        ensures filled { OnOk result (IsSomeAnd place.new (λ sheet. flat_meaning sheet ≡ flat prices terms)) }
+        ensures value { let meaning = flat prices terms in
+            OnOk result (IsSomeAnd place.new (λ sheet. flat_meaning sheet ≡ meaning)) }
         ensures kept { OnErr result (place.new ≡ place.old) }
     {
         if !prices.in_limits() || !terms.in_limits() {

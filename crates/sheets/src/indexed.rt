@@ -44,8 +44,9 @@ impl<'a> IndexedSheet<'a> {
         consumer: &'a [Dated<IndexNumber>],
     ) -> Result<(), Refusal>
         ensures answer { let given = prices_in_limits prices && terms_in_limits terms in
-            result ≡ making (given && (sound index_fits wages.now && sound index_fits consumer.now)) }
-        ensures filled { let meaning = indexed prices terms wages.now consumer.now in
+            let rows = sound index_fits wages.now && sound index_fits consumer.now in
+            result ≡ making (given && rows) }
+        ensures value { let meaning = indexed prices terms wages.now consumer.now in
             OnOk result (IsSomeAnd place.new (λ sheet. indexed_meaning sheet ≡ meaning)) }
         ensures kept { OnErr result (place.new ≡ place.old) }
     {
