@@ -64,12 +64,12 @@ priced m request = priced_as m request.item request.order
 -- On each sheet, unless what it is made of is refused.
 abbrev pub on_flat : Request → Result Quotation Refusal
 on_flat request =
-    then_do (making (prices_in_limits desk_prices && terms_in_limits desk_terms)) (λ _. priced (flat (Some desk_prices) desk_terms) request)
+    then_do (making (prices_in_limits desk_prices && terms_in_limits desk_terms)) (λ _. priced (flat desk_prices desk_terms) request)
 
 abbrev pub on_indexed : List (Dated IndexNumber) → List (Dated IndexNumber) → Request → Result Quotation Refusal
 on_indexed wages consumer request =
     then_do (making ((prices_in_limits desk_prices && terms_in_limits desk_terms) && (sound index_fits wages && sound index_fits consumer)))
-    (λ _. priced (indexed (Some desk_prices) desk_terms wages consumer) request)
+    (λ _. priced (indexed desk_prices desk_terms wages consumer) request)
 
 abbrev pub on_dated : List (Dated Prices) → Request → Result Quotation Refusal
 on_dated records request =

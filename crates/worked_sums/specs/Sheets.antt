@@ -1,12 +1,11 @@
 -- Sheets for the examples: 6.91, 18.77 and 16.20 euros, the common row, given contribution, weights
 -- and rounding.
 use Rattle.std.specs.Prelude.{ℕ, cond, Some, None, Option, ◌==◌}
-use Rattle.calendar.specs.Days.{year, months_between}
+use Rattle.calendar.specs.Days.{year}
 use Rattle.tariff.specs.Meaning.{Meaning}
 use Rattle.tariff.specs.declared.kinds.Kind.{Kind}
 use Rattle.tariff.specs.declared.kinds.Kind.TheVariants.{Covered, Connectable, ThirdParty}
-use Rattle.tariff.specs.declared.kinds.Coefficient.{Coefficient}
-use Rattle.sheet_parts.specs.Row.{coefficient_after}
+use Rattle.sheet_parts.specs.Row.{common_row, by_row}
 use Rattle.sheet_parts.specs.Rounding.{five_up, five_down}
 
 -- One price for each kind, whatever the date.
@@ -15,14 +14,10 @@ flat_price Covered = 6910000
 flat_price Connectable = 18770000
 flat_price ThirdParty = 16200000
 
--- The coefficient of the common row between two dates.
-abbrev pub row_coefficient : ℕ → ℕ → Option Coefficient
-row_coefficient installed receipt = Some (coefficient_after (months_between installed receipt))
-
 abbrev pub flat_sheet : ℕ → (ℕ → ℕ) → (ℕ → ℕ → ℕ) → Meaning
 flat_sheet contribution weight rounded = record {
   price = λ kind installed. Some (flat_price kind);
-  coefficient = row_coefficient;
+  coefficient = by_row common_row;
   contribution = contribution;
   weight = weight;
   rounded = rounded;
@@ -49,7 +44,7 @@ abbrev pub holed_sheet : (ℕ → ℕ → ℕ) → Meaning
 holed_sheet rounded = record {
   price = λ kind installed. holed_price kind;
   coefficient = λ installed receipt.
-      cond (year installed == 2018) None (row_coefficient installed receipt);
+      cond (year installed == 2018) None (by_row common_row installed receipt);
   contribution = 15;
   weight = λ index. 100;
   rounded = rounded;

@@ -1,12 +1,11 @@
 -- Sums worked by hand, as facts of the definitions.
-use Rattle.std.specs.Prelude.{◌≡◌, ℕ, ◌+◌, ◌*◌, List, [], ◌∷◌, ◌++◌, Some, None, Option, slice_index, map}
+use Rattle.std.specs.Prelude.{◌≡◌, ℕ, ◌+◌, ◌*◌, List, [], ◌∷◌, ◌++◌, Some, None, Option, replicate, slice_index, map}
 use Rattle.calendar.specs.Days.{index_of}
 use Rattle.series.specs.declared.rows.Dated.{Dated}
 use Rattle.series.specs.declared.limits.IndexNumber.{IndexNumber}
 use Rattle.tariff.specs.Meaning.{Meaning}
 use Rattle.sheet_parts.specs.Rounding.{five_down, five_up}
-use Rattle.sheet_parts.specs.Row.{coefficient_after}
-use Rattle.sheet_parts.specs.Given.{no_terms}
+use Rattle.sheet_parts.specs.Row.{common_row, coefficient_after}
 use Rattle.sheets.specs.Flat.{flat}
 use Rattle.sheets.specs.DatedSheets.{dated}
 use Rattle.sheets.specs.Network.{network_records}
@@ -15,6 +14,7 @@ use Rattle.tariff.specs.declared.kinds.Kind.{Kind}
 use Rattle.tariff.specs.declared.kinds.Kind.TheVariants.{Connectable}
 use Rattle.tariff.specs.declared.kinds.Coefficient.{Coefficient}
 use Rattle.sheet_parts.specs.declared.given.Prices.{Prices}
+use Rattle.sheet_parts.specs.declared.given.Terms.{Terms}
 use Rattle.book.specs.Lists.{total}
 use Rattle.book.specs.Members.{Member, Addition, weight_to}
 use Rattle.book.specs.Sharing.{object_contribution, credits}
@@ -27,7 +27,7 @@ use Rattle.worked_sums.specs.Cases.{balances}
 
 -- The coefficient of the common row after a number of months is so many 1,200ths.
 abbrev pub in_1200ths : ℕ → ℕ → Type 0
-in_1200ths months n = coefficient_after months ≡ record { numerator = n; denominator = 1200 }
+in_1200ths months n = coefficient_after common_row months ≡ Some (record { numerator = n; denominator = 1200 })
 
 abbrev pub scaled : Meaning → Option ℕ → Option Coefficient → Option ℕ
 scaled m None by = None
@@ -42,6 +42,10 @@ one_tranche m kind installed receipt =
 -- Prices of which only the connectable one is asked.
 abbrev pub connectable_at : ℕ → Prices
 connectable_at price = record { covered = 1; connectable = price; third = 1 }
+
+-- Terms of which none is asked.
+abbrev pub no_terms : Terms
+no_terms = record { contribution = 0; weights = replicate 41 0 }
 
 -- An index that stands at one number from the start of 2020, and at another from the start of 2021.
 abbrev pub risen : ℕ → ℕ → List (Dated IndexNumber)
@@ -103,7 +107,7 @@ pub record WorkedSums : Type 0 where
   pub up : five_up (19149661 * 1230) 1200 ≡ 19628403
   -- the same on a flat sheet, and on the network's dated one
   pub on_flat :
-      one_tranche (flat (Some (connectable_at 19149661)) no_terms) Connectable 20220901 20221231 ≡
+      one_tranche (flat (connectable_at 19149661) no_terms) Connectable 20220901 20221231 ≡
       Some 19628402
   pub on_dated :
       one_tranche (dated network_records no_terms) Connectable 20220901 20221231 ≡
@@ -111,7 +115,7 @@ pub record WorkedSums : Type 0 where
   -- 16.91 euros after 18 months, wages from 1000 to 1040, consumer prices from 1000 to 1020
   pub on_indexed :
       one_tranche
-      (indexed (Some (connectable_at 16910000)) no_terms (risen 1000 1040) (risen 1000 1020))
+      (indexed (connectable_at 16910000) no_terms (risen 1000 1040) (risen 1000 1020))
       Connectable 20200115 20210720 ≡
       Some 19662948
   -- a zone launched on 20170315
