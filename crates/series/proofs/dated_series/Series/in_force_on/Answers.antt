@@ -1,7 +1,7 @@
 use Rattle.std.proofs.Common.{rules, ◌≡◌, leb}
 use Rattle.series.specs.Lookups.{in_force_on}
 use Rattle.series.proofs.Steady.{steady_on, own_day_on, keeps_found}
-use Rattle.series.proofs.lent.Series.in_force_on.Goals as goal
+use Rattle.series.proofs.dated_series.Series.in_force_on.Goals as goal
 
 pub returns : goal.returns
 returns g c =

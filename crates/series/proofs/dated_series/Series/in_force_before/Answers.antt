@@ -1,7 +1,7 @@
 use Rattle.std.proofs.Common.{rules, ◌≡◌, ltb}
 use Rattle.series.specs.Lookups.{in_force_before}
 use Rattle.series.proofs.Steady.{steady_before, own_day_before, keeps_found}
-use Rattle.series.proofs.lent.Series.in_force_before.Goals as goal
+use Rattle.series.proofs.dated_series.Series.in_force_before.Goals as goal
 
 pub returns : goal.returns
 returns g c =

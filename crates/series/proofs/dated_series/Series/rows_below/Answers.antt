@@ -2,7 +2,7 @@ use Rattle.std.proofs.Common.{rules, ltb}
 use Rattle.std.proofs.lemmas.Bool.{ltb-true, ltb-false}
 use Rattle.std.proofs.lemmas.List.Sorted.{IsPartitionPoint-from_clause, IsPartitionedBy-ltb}
 use Rattle.series.proofs.Order.{rises}
-use Rattle.series.proofs.lent.Series.rows_below.Goals as goal
+use Rattle.series.proofs.dated_series.Series.rows_below.Goals as goal
 
 pub returns-clause-parted : goal.returns-clause-parted
 returns-clause-parted g c =

@@ -1,7 +1,7 @@
 use Rattle.std.proofs.Common.{◌≤◌, ltb, sym, ◌∙◌, arith}
 use Rattle.std.proofs.lemmas.Bool.{lt-ltb, le-ltb}
 use Rattle.series.proofs.Last.{none_passes, last_at}
-use Rattle.series.proofs.lent.Series.last_below.Goals as goal
+use Rattle.series.proofs.dated_series.Series.last_below.Goals as goal
 
 pub returns-in_err-last : goal.returns-in_err-last
 returns-in_err-last g c = record {

@@ -1,7 +1,7 @@
 use Rattle.std.proofs.Common.{rules, ltb}
 use Rattle.std.proofs.lemmas.List.Sorted.{answers_always}
 use Rattle.series.proofs.Order.{rising_seen}
-use Rattle.series.proofs.fill.rise.Goals as goal
+use Rattle.series.proofs.dated_series.rise.Goals as goal
 
 pub returns : goal.returns
 returns g c = record {
