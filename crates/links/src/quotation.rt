@@ -1,29 +1,32 @@
-// The text of an order and of its price.
+// What an order costs, how its price comes about, and the text of both.
 ghost use Rattle.std.specs.Prelude.{Some};
-ghost use Rattle.links.specs.Texts.{order_text, basis_text, quotation_text};
+ghost use Rattle.links.specs.Texts.{basis_text, quotation_text};
 
-use crate::order::{Basis, Order, Quotation};
 use money::Money;
 use std::fmt;
+use tariff::kinds::Coefficient;
 
-impl fmt::Display for Order {
-    ghost output = { λ order. Some (order_text order) };
+/// Whether the network was built for the order, or the PM was in service before it: the shape of an
+/// `Option<Coefficient>`, whose `None` would not say what its absence means, nor have a text of its own.
+#[derive(Clone, Copy, PartialEq, Eq, Debug)]
+pub enum Basis {
+    AbInitio,
+    ExPost(Coefficient),
+}
 
-    fn fmt<W: fmt::Write>(&self, f: &mut fmt::Formatter<W>) -> fmt::Result {
-        let ordered = self.ordered;
-        let metres = self.metres;
-        let fibres = self.fibres;
-        match self.service {
-            Some(service) => write!(
-                f,
-                "ORDERED {ordered} METRES {metres} FIBRES {fibres} SERVICE {service}"
-            ),
-            None => write!(
-                f,
-                "ORDERED {ordered} METRES {metres} FIBRES {fibres} SERVICE UNKNOWN"
-            ),
-        }
-    }
+/// A price in micro-euros, and how it came about.
+#[derive(Clone, Copy, PartialEq, Eq, Debug)]
+pub struct Quotation {
+    pub basis: Basis,
+    pub price: u64,
+}
+
+// What an order is priced by: its basis, and its row and column in the tables, both counted from 0.
+#[derive(Clone, Copy)]
+pub(crate) struct Cell {
+    pub(crate) basis: Basis,
+    pub(crate) row: usize,
+    pub(crate) column: usize,
 }
 
 impl fmt::Display for Basis {

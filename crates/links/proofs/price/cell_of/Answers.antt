@@ -1,8 +1,8 @@
 use Rattle.std.proofs.Common.{sym, ◌∙◌}
 use Rattle.std.proofs.lemmas.Result.{err_from_is_err_and, IfOk-from_err}
-use Rattle.links.specs.Quotations.{PlaceLimits}
-use Rattle.links.proofs.Placing.{by_dates, by_basis, found_place, found_limits}
-use Rattle.links.proofs.price.place_of.Goals as goal
+use Rattle.links.specs.Quotations.{CellLimits}
+use Rattle.links.proofs.Placing.{by_dates, by_basis, found_cell, found_limits}
+use Rattle.links.proofs.price.cell_of.Goals as goal
 
 pub returns-in_err-check_dates : goal.returns-in_err-check_dates
 returns-in_err-check_dates g c =
@@ -11,7 +11,7 @@ returns-in_err-check_dates g c =
     let stops = sym c.check_dates.ensures.answer ∙ c.in_err-check_dates.was in
     record {
       answer = rw (p.1, p.2) (by_dates (g.T.Tariff.meaning c.args.sheet.now) c.args.order.now _ stops);
-      limits = IfOk-from_err out.result PlaceLimits out.ensures.0;
+      limits = IfOk-from_err out.result CellLimits out.ensures.0;
     }
 
 pub returns-in_err-basis : goal.returns-in_err-basis
@@ -22,7 +22,7 @@ returns-in_err-basis g c =
     let stops = sym c.basis_of.ensures.answer ∙ c.in_err-basis.was in
     record {
       answer = rw (p.1, p.2) (by_basis (g.T.Tariff.meaning c.args.sheet.now) c.args.order.now _ real _ stops);
-      limits = IfOk-from_err out.result PlaceLimits out.ensures.0;
+      limits = IfOk-from_err out.result CellLimits out.ensures.0;
     }
 
 pub returns : goal.returns
@@ -34,6 +34,6 @@ returns g c =
     let in_row = sym c.row_of.ensures.answer ∙ c.in_ok-row.was in
     let in_column = sym c.column_of.ensures.answer ∙ c.in_ok-column.was in
     record {
-      answer = found_place m o _ real _ based _ in_row _ in_column;
+      answer = found_cell m o _ real _ based _ in_row _ in_column;
       limits = found_limits m o _ real _ based _ in_row _ in_column (g.T.Tariff.lawful c.args.sheet.now);
     }

@@ -9,7 +9,7 @@ use Rattle.tariff.specs.declared.kinds.Coefficient.{Coefficient}
 use Rattle.links.specs.Tables.{row_of}
 use Rattle.links.specs.Quotations.{real_if_known, dates_real, basis_on, basis_of, BasisLimits}
 use Rattle.links.specs.declared.order.Order.{Order}
-use Rattle.links.specs.declared.order.Basis.TheVariants.{AbInitio, ExPost}
+use Rattle.links.specs.declared.quotation.Basis.TheVariants.{AbInitio, ExPost}
 
 holds : (b : Bool) → b ≡ true → T b
 holds b is = subst T (sym is) tt
