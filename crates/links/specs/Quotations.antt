@@ -30,7 +30,8 @@ dates_real o = is_date o.ordered && real_if_known o.service
 abbrev pub basis_on : Meaning → Option ℕ → ℕ → Option Basis
 basis_on m None ordered = Some AbInitio
 basis_on m (Some service) ordered =
-    cond (nat_lt service ordered) (option_map ExPost (m.coefficient service ordered)) (Some AbInitio)
+    cond (nat_lt service ordered)
+    (option_map ExPost (m.coefficient service ordered)) (Some AbInitio)
 
 -- The basis of an order.
 abbrev pub basis_of : Meaning → Order → Option Basis

@@ -78,7 +78,7 @@ on_flat enquiry =
     (λ _. priced (flat (Some desk_prices) desk_terms) enquiry)
 
 -- On the indexed sheet, unless what it is made of is refused.
-abbrev pub on_indexed : List (Dated IndexNumber) → List (Dated IndexNumber) → Enquiry → Result Quotation Refusal
+abbrev pub on_indexed : (wages consumer : List (Dated IndexNumber)) → Enquiry → Result Quotation Refusal
 on_indexed wages consumer enquiry =
     then_do
     (making
