@@ -23,7 +23,7 @@ use Rattle.book.specs.declared.zone.Figures.{Figures}
 use Rattle.book.specs.declared.zone.Event.{Event}
 use Rattle.book.proofs.Passing.{clear_left, clear_right, accepted_is, real_of}
 use Rattle.book.proofs.Admitting.{Admitted, admitted}
-use Rattle.book.proofs.Joining.{few_tranches}
+use Rattle.book.proofs.Joining.{few_tranches, rate_within}
 
 -- each object has as many lines as are counted for it
 one_or_two : {A : Type 0} (b : Bool) (x y : A) → length (x ∷ cond b (y ∷ []) []) ≡ cond b 2 1
@@ -65,6 +65,7 @@ module _ (m : Meaning) (f : Figures) (launch_date : ℕ) (t : Tables) (places : 
     pub tables_in : Admitted f t
     pub real : T (is_date v.date)
     pub in_time : index_of launch_date v.date ≤ 40
+    pub rate : v.rate ≤ 20
     pub few : (added f launch_date t v).tranches ≤ 20
     pub room : length (billing_lines m f launch_date t v) ≤ places
 
@@ -81,6 +82,7 @@ module _ (m : Meaning) (f : Figures) (launch_date : ℕ) (t : Tables) (places : 
         tables_in = lawful;
         real = real_of v.date day;
         in_time = ltb-false 40 (index_of launch_date v.date) rest.0;
+        rate = rate_within f t v (index_of launch_date v.date) lawful.roll_long roll;
         few = few_tranches f t v (index_of launch_date v.date) lawful.roll_long roll;
         room = ltb-false places n last.1.1.0;
       }

@@ -31,13 +31,13 @@ is_ok (Err refusal) = 0
 -- With a place for each operator and each object together, the share-out of a levy on the tables that it was billed on is never refused.
 pub never_refused : (m : Meaning) (f : Figures) (day : ℕ) (levy : OpenLevy) (t : Tables) (places room : ℕ) (v : Event) (lines : List Line) (refusal : Refusal) →
     ◌≡◌ {A = Answer} (Ok (record { state = levied_on levy t; lines = lines })) (billing m f day t places v) →
-    ◌≡◌ {A = Answer} (Err refusal) (settling m levy.figures levy.launch_date t room levy.event) →
-    length (counted_members levy.figures t) * length (counted_register levy.figures t) ≤ room → ⊥
+    ◌≡◌ {A = Answer} (Err refusal) (settling m levy.zone.core.figures levy.zone.launch_date t room levy.event) →
+    length (counted_members levy.zone.core.figures t) * length (counted_register levy.zone.core.figures t) ≤ room → ⊥
 never_refused m f day levy t places room v lines refusal billed refused enough =
     let effect : Effect = record { state = levied_on levy t; lines = lines } in
-    let g = levy.figures in
+    let g = levy.zone.core.figures in
     let same = (accepted_is (billing_checks m f day t places v) (billing_effect m f day t v) effect (sym billed)).1 in
-    let launch : day ≡ levy.launch_date = ap (λ (e : Effect). day_in e.state.phase) same in
+    let launch : day ≡ levy.zone.launch_date = ap (λ (e : Effect). day_in e.state.phase) same in
     let event : v ≡ levy.event = ap (λ (e : Effect). event_in v e.state.phase) same in
     let most = lines_counted.credited m (added g day t v) (counted_register g t) (counted_members g t) in
     let shared = (share_out_follows m f day t places v effect (sym billed) room).enough (omega (arith, most, enough)) in

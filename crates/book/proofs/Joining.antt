@@ -50,9 +50,13 @@ module _ (f : Figures) (t : Tables) (v : Event) (index : ℕ) (long : f.operator
   pub few_tranches : Clear (roll_checks f t v) → more.tranches ≤ 20
   few_tranches clear = let most = (inside 1 v.rate 20 clear.1.0).1 in omega arith
 
+  pub rate_within : Clear (roll_checks f t v) → v.rate ≤ 20
+  rate_within clear = (inside 1 v.rate 20 clear.1.0).1
+
 -- what an accepted subscription tells
 pub record Subscribable (f : Figures) (t : Tables) (v : Event) : Type 0 where
   pub tables_in : Admitted f t
+  pub rate : v.rate ≤ 20
   pub few : (addition 0 v (counted_members f t)).tranches ≤ 20
   pub fits : (length (entered_roll (addition 0 v (counted_members f t)) (counted_roll f t)) ≤ 16) × (length (entered_roll (addition 0 v (counted_members f t)) (counted_roll f t)) ≤ length t.roll)
 
@@ -63,6 +67,7 @@ subscribable f t v u few passes =
     let roll = clear_right (date_checks f v.date) (roll_checks f t v) all.1 in
     record {
       tables_in = lawful;
+      rate = rate_within f t v 0 lawful.roll_long roll;
       few = few_tranches f t v 0 lawful.roll_long roll;
       fits = finds_place f t v 0 lawful.roll_long roll few;
     }

@@ -4,7 +4,7 @@
 --   State    the zone's figures, its phase, and the tables
 --   Effect   the state that an accepted call leads to, and the lines that it writes
 --   Answer   an effect, or a refusal
-use Rattle.std.specs.Prelude.{ℕ, Bool, true, false, List, take, Some, None, Ok, Err, Result}
+use Rattle.std.specs.Prelude.{ℕ, Bool, true, false, List, take, Some, None, Ok, Err, Option, Result}
 use Rattle.refusal.specs.declared.Refusal.{Refusal}
 use Rattle.book.specs.Lists.{written}
 use Rattle.book.specs.Members.{Member, members_of}
@@ -33,6 +33,16 @@ pub data Phase : Type 0 where
   preparing : Phase
   launched : (launch_date : ℕ) → Phase
   levied : (launch_date : ℕ) (event : Event) → Phase
+
+-- The launch date of a phase, and the event of an open levy.
+abbrev pub launch_day : Phase → Option ℕ
+launch_day preparing = None
+launch_day (launched launch_date) = Some launch_date
+launch_day (levied launch_date event) = Some launch_date
+
+abbrev pub open_event : Phase → Option Event
+open_event (levied launch_date event) = Some event
+open_event _ = None
 
 pub record State : Type 0 where
   pub figures : Figures

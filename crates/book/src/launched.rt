@@ -1,10 +1,16 @@
-// A zone after its launch, with no levy open.
-ghost use Rattle.std.specs.Prelude.{IfErr, length, ◌≡◌, ◌≤◌};
-ghost use Rattle.book.specs.Limits.{most_operators, most_objects};
-ghost use Rattle.book.specs.Zone.{strip_after};
+// A zone after its launch, with no levy open, and the calls that it takes: openings, cablings, and commitments and raises
+// that bill.
+//
+// The sheet, the tables and the strip are lent one by one, so that a call's signature says which of them it can change; a
+// struct of all four would lend them all to change. A commitment and a raise differ in one word, and stay two calls, as do
+// an opening and a cabling: the rules name them so, each takes the numbers that the rules list for it, and a raise alone
+// has the cuts law on its contract.
+ghost use Rattle.std.specs.Prelude.{◌≡◌, length, IfErr};
 ghost use Rattle.book.specs.Answers.{installation, billing};
-ghost use Rattle.book.specs.Calls.{commitment as call_commitment, raise as call_raise, opening as call_opening, cabling as call_cabling, commitment_event, raise_event, opened, cabled};
+ghost use Rattle.book.specs.Calls.{commitment as call_commitment, raise as call_raise, opening as call_opening, cabling as call_cabling, cabled};
 ghost use Rattle.book.specs.Passing.{tables};
+ghost use Rattle.book.specs.Zone.{launch_day};
+ghost use Rattle.book.specs.Zone as spec;
 
 use crate::adding::increase_of;
 use crate::bill::{bill, charge};
@@ -15,39 +21,34 @@ use crate::lines::Line;
 use crate::refused::Refused;
 use crate::tables::Tables;
 use crate::written::Written;
-use crate::zone::{Change, Event, Figures};
+use crate::zone::{Change, Core, Event, Figures};
 use calendar::year_index;
 use tariff::kinds::Kind;
 use tariff::tariff::Tariff;
 
-// It takes openings, cablings, and commitments and raises that bill. Each of the three states keeps its numbers itself,
-// with their limits and the same two questions: a struct within all three would be one more name in every contract.
+// It is moved from call to call.
 #[derive(Drop)]
 pub struct LaunchedZone {
-    pub(crate) figures: Figures,
+    pub(crate) core: Core,
     pub(crate) launch_date: u32,
-    ghost few_operators: { figures.operators ≤ most_operators },
-    ghost few_objects: { figures.objects ≤ most_objects },
 }
 
 impl LaunchedZone {
+    ghost use Rattle.book.specs.Promises.{launched_on, levied_on, written_answer, written_count, IsAnswered, IsWritten, WholeLifeLaws, CutsFairly};
+
     // The zone's plain numbers.
     pub const fn figures(&self) -> Figures
-        ensures value { result ≡ self.now.figures }
+        ensures value { (t : spec.Tables) → result ≡ (launched_on self.now t).figures }
     {
-        self.figures
+        self.core.figures
     }
 
     // The day of the launch.
     pub const fn launch_date(&self) -> u32
-        ensures value { result ≡ self.now.launch_date }
+        ensures value { (t : spec.Tables) → Some result ≡ launch_day (launched_on self.now t).phase }
     {
         self.launch_date
     }
-}
-
-impl LaunchedZone {
-    ghost use Rattle.book.specs.Promises.{launched_on, levied_on, written_answer, LivesOn, CutsFairly, IsAnswered};
 
     // An operator commits itself to a rate and is billed for every object; the levy is to be shared out.
     pub fn commitment<T: Tariff>(
@@ -61,9 +62,10 @@ impl LaunchedZone {
         rate: u32,
     ) -> Result<Written<OpenLevy>, Refused<LaunchedZone>>
         ensures call { let t = tables roll.now register.now in
-            IsAnswered (T.meaning sheet.now) (launched_on self t) (call_commitment date operator rate) strip.old strip.new
-            (written_answer levied_on t strip.new result) }
+            IsAnswered (T.meaning sheet.now) (launched_on self t) (call_commitment date operator rate)
+            strip.old strip.new (written_count result) (written_answer levied_on t strip.new result) }
         ensures kept { IfErr result (λ back. back.kept ≡ self) }
+        ensures laws { WholeLifeLaws }
     {
         let event = Event {
             change: Change::Commitment,
@@ -86,9 +88,10 @@ impl LaunchedZone {
         rate: u32,
     ) -> Result<Written<OpenLevy>, Refused<LaunchedZone>>
         ensures call { let t = tables roll.now register.now in
-            IsAnswered (T.meaning sheet.now) (launched_on self t) (call_raise date operator rate) strip.old strip.new
-            (written_answer levied_on t strip.new result) }
+            IsAnswered (T.meaning sheet.now) (launched_on self t) (call_raise date operator rate)
+            strip.old strip.new (written_count result) (written_answer levied_on t strip.new result) }
         ensures kept { IfErr result (λ back. back.kept ≡ self) }
+        ensures laws { WholeLifeLaws }
         ensures cut { let t = tables roll.now register.now in
             CutsFairly (T.meaning sheet.now) (launched_on self t) date operator rate
             (written_answer levied_on t strip.new result) }
@@ -113,10 +116,12 @@ impl LaunchedZone {
         object: u32,
         dwellings: u32,
     ) -> Result<Written<LaunchedZone>, Refused<LaunchedZone>>
-        ensures answer { written_answer launched_on (tables roll.now register.new) strip.new result ≡ installation (T.meaning sheet.now) self.figures self.launch_date (tables roll.now register.old) (length strip.old) (opened date object dwellings) }
-        ensures strip { strip.new ≡ strip_after strip.old (installation (T.meaning sheet.now) self.figures self.launch_date (tables roll.now register.old) (length strip.old) (opened date object dwellings)) }
+        ensures call { let before = tables roll.now register.old in
+            let after = tables roll.now register.new in
+            IsAnswered (T.meaning sheet.now) (launched_on self before) (call_opening date object dwellings)
+            strip.old strip.new (written_count result) (written_answer launched_on after strip.new result) }
         ensures kept { IfErr result (λ back. (back.kept ≡ self) × (register.new ≡ register.old)) }
-        ensures life { LivesOn (T.meaning sheet.now) (launched_on self (tables roll.now register.old)) (call_opening date object dwellings) (written_answer launched_on (tables roll.now register.new) strip.new result) }
+        ensures laws { WholeLifeLaws }
     {
         let entry = RegisterEntry {
             object,
@@ -139,10 +144,12 @@ impl LaunchedZone {
         third: bool,
         dwellings: u32,
     ) -> Result<Written<LaunchedZone>, Refused<LaunchedZone>>
-        ensures answer { written_answer launched_on (tables roll.now register.new) strip.new result ≡ installation (T.meaning sheet.now) self.figures self.launch_date (tables roll.now register.old) (length strip.old) (cabled date object third dwellings) }
-        ensures strip { strip.new ≡ strip_after strip.old (installation (T.meaning sheet.now) self.figures self.launch_date (tables roll.now register.old) (length strip.old) (cabled date object third dwellings)) }
+        ensures call { let before = tables roll.now register.old in
+            let after = tables roll.now register.new in
+            IsAnswered (T.meaning sheet.now) (launched_on self before) (call_cabling date object third dwellings)
+            strip.old strip.new (written_count result) (written_answer launched_on after strip.new result) }
         ensures kept { IfErr result (λ back. (back.kept ≡ self) × (register.new ≡ register.old)) }
-        ensures life { LivesOn (T.meaning sheet.now) (launched_on self (tables roll.now register.old)) (call_cabling date object third dwellings) (written_answer launched_on (tables roll.now register.new) strip.new result) }
+        ensures laws { WholeLifeLaws }
     {
         let entry = site_entry(date, object, third, dwellings);
         self.installed(sheet, roll, register, strip, entry)
@@ -157,26 +164,30 @@ impl LaunchedZone {
         strip: &mut [Line],
         object: RegisterEntry,
     ) -> Result<Written<LaunchedZone>, Refused<LaunchedZone>>
-        ensures answer { written_answer launched_on (tables roll.now register.new) strip.new result ≡ installation (T.meaning sheet.now) self.figures self.launch_date (tables roll.now register.old) (length strip.old) object }
-        ensures strip { strip.new ≡ strip_after strip.old (installation (T.meaning sheet.now) self.figures self.launch_date (tables roll.now register.old) (length strip.old) object) }
+        ensures answer { let m = T.meaning sheet.now in
+            let before = tables roll.now register.old in
+            let after = tables roll.now register.new in
+            let places = length strip.old in
+            IsWritten (installation m self.core.figures self.launch_date before places object)
+            strip.old strip.new (written_count result) (written_answer launched_on after strip.new result) }
         ensures kept { IfErr result (λ back. (back.kept ≡ self) × (register.new ≡ register.old)) }
     {
         match self.check_installation(sheet, Tables { roll, register }, strip.len(), &object) {
             Ok(()) => {
-                let LaunchedZone {
-                    figures,
-                    launch_date,
-                } = self;
+                let LaunchedZone { core, launch_date } = self;
+                let figures = core.figures;
                 let operators = Operators {
                     items: &roll[..figures.operators],
                 };
                 let lines = charge(sheet, Object { item: &object }, operators, strip);
                 register[figures.objects] = object;
                 let zone = LaunchedZone {
-                    figures: Figures {
-                        last: Some(object.installed),
-                        objects: figures.objects + 1,
-                        ..figures
+                    core: Core {
+                        figures: Figures {
+                            last: Some(object.installed),
+                            objects: figures.objects + 1,
+                            ..figures
+                        },
                     },
                     launch_date,
                 };
@@ -198,31 +209,34 @@ impl LaunchedZone {
         strip: &mut [Line],
         event: Event,
     ) -> Result<Written<OpenLevy>, Refused<LaunchedZone>>
-        ensures answer { written_answer levied_on (tables roll.now register.now) strip.new result ≡ billing (T.meaning sheet.now) self.figures self.launch_date (tables roll.now register.now) (length strip.old) event }
-        ensures strip { strip.new ≡ strip_after strip.old (billing (T.meaning sheet.now) self.figures self.launch_date (tables roll.now register.now) (length strip.old) event) }
+        ensures answer { let m = T.meaning sheet.now in
+            let t = tables roll.now register.now in
+            let places = length strip.old in
+            IsWritten (billing m self.core.figures self.launch_date t places event)
+            strip.old strip.new (written_count result) (written_answer levied_on t strip.new result) }
         ensures kept { IfErr result (λ back. back.kept ≡ self) }
     {
         match self.check_billing(sheet, Tables { roll, register }, strip.len(), &event) {
             Ok(()) => {
-                let LaunchedZone {
-                    figures,
-                    launch_date,
-                } = self;
+                let LaunchedZone { core, launch_date } = self;
+                let figures = core.figures;
                 let index = year_index(launch_date, event.date);
                 let increase = increase_of(&event, index, &roll[..figures.operators]);
                 let objects = Objects {
                     items: &register[..figures.objects],
                 };
                 let lines = bill(sheet, increase, objects, strip);
-                let zone = OpenLevy {
-                    figures: Figures {
-                        last: Some(event.date),
-                        ..figures
+                let zone = LaunchedZone {
+                    core: Core {
+                        figures: Figures {
+                            last: Some(event.date),
+                            ..figures
+                        },
                     },
                     launch_date,
-                    event,
                 };
-                Ok(Written { zone, lines })
+                let levy = OpenLevy { zone, event };
+                Ok(Written { zone: levy, lines })
             }
             Err(refusal) => Err(Refused {
                 refusal,

@@ -1,11 +1,11 @@
-// A zone whose last event is billed and not yet shared out.
-ghost use Rattle.std.specs.Prelude.{IfErr, length, ◌≡◌, ◌≤◌};
-ghost use Rattle.book.specs.Limits.{most_operators, most_objects, most_index};
+// A zone whose last event is billed and not yet shared out, and the call that it takes: the share-out.
+ghost use Rattle.std.specs.Prelude.{◌≡◌, ◌≤◌, length, IfErr};
 ghost use Rattle.calendar.specs.Days.{index_of};
-ghost use Rattle.book.specs.Zone.{strip_after};
-ghost use Rattle.book.specs.Answers.{settling};
+ghost use Rattle.book.specs.Limits.{most_index};
 ghost use Rattle.book.specs.Calls.{share_out as call_share_out};
 ghost use Rattle.book.specs.Passing.{tables};
+ghost use Rattle.book.specs.Zone.{launch_day, open_event};
+ghost use Rattle.book.specs.Zone as spec;
 
 use crate::adding::increase_of;
 use crate::counted::Objects;
@@ -16,52 +16,48 @@ use crate::refused::Refused;
 use crate::settle::settle;
 use crate::tables::Tables;
 use crate::written::Written;
-use crate::zone::{Event, Figures, Totals};
+use crate::zone::{Core, Event, Figures, Totals};
 use calendar::year_index;
 use tariff::tariff::Tariff;
 
-// It takes a share-out and nothing else. It has no `Drop`, so that no code can let it go: a levy may not lapse.
+// The launched zone that it goes back to, and the event that it keeps. It takes a share-out and nothing else. It has no
+// `Drop`, so that no code can let it go: a levy may not lapse.
 pub struct OpenLevy {
-    pub(crate) figures: Figures,
-    pub(crate) launch_date: u32,
+    pub(crate) zone: LaunchedZone,
     pub(crate) event: Event,
-    ghost few_operators: { figures.operators ≤ most_operators },
-    ghost few_objects: { figures.objects ≤ most_objects },
-    ghost in_time: { index_of launch_date event.date ≤ most_index },
+    ghost in_time: { index_of zone.launch_date event.date ≤ most_index },
 }
 
 impl OpenLevy {
+    ghost use Rattle.book.specs.Promises.{launched_on, levied_on, written_answer, written_count, IsAnswered, WholeLifeLaws};
+
     // The zone's plain numbers.
     pub const fn figures(&self) -> Figures
-        ensures value { result ≡ self.now.figures }
+        ensures value { (t : spec.Tables) → result ≡ (levied_on self.now t).figures }
     {
-        self.figures
+        self.zone.core.figures
     }
 
     // The day of the launch.
     pub const fn launch_date(&self) -> u32
-        ensures value { result ≡ self.now.launch_date }
+        ensures value { (t : spec.Tables) → Some result ≡ launch_day (levied_on self.now t).phase }
     {
-        self.launch_date
+        self.zone.launch_date
     }
 
     // The event that is to be shared out.
     pub const fn event(&self) -> Event
-        ensures value { result ≡ self.now.event }
+        ensures value { (t : spec.Tables) → Some result ≡ open_event (levied_on self.now t).phase }
     {
         self.event
     }
 
     // The year index of the event.
     pub(crate) const fn index(&self) -> u32
-        ensures value { result ≡ index_of self.now.launch_date self.now.event.date }
+        ensures value { result ≡ index_of self.now.zone.launch_date self.now.event.date }
     {
-        year_index(self.launch_date, self.event.date)
+        year_index(self.zone.launch_date, self.event.date)
     }
-}
-
-impl OpenLevy {
-    ghost use Rattle.book.specs.Promises.{launched_on, levied_on, written_answer, LivesOn};
 
     // Credits the operators that the event found with their shares, then enters the event's tranches.
     pub fn share_out<T: Tariff>(
@@ -71,10 +67,12 @@ impl OpenLevy {
         register: &[RegisterEntry],
         strip: &mut [Line],
     ) -> Result<Written<LaunchedZone>, Refused<OpenLevy>>
-        ensures answer { written_answer launched_on (tables roll.new register.now) strip.new result ≡ settling (T.meaning sheet.now) self.figures self.launch_date (tables roll.old register.now) (length strip.old) self.event }
-        ensures strip { strip.new ≡ strip_after strip.old (settling (T.meaning sheet.now) self.figures self.launch_date (tables roll.old register.now) (length strip.old) self.event) }
+        ensures call { let before = tables roll.old register.now in
+            let after = tables roll.new register.now in
+            IsAnswered (T.meaning sheet.now) (levied_on self before) call_share_out
+            strip.old strip.new (written_count result) (written_answer launched_on after strip.new result) }
         ensures kept { IfErr result (λ back. (back.kept ≡ self) × (roll.new ≡ roll.old)) }
-        ensures life { LivesOn (T.meaning sheet.now) (levied_on self (tables roll.old register.now)) call_share_out (written_answer launched_on (tables roll.new register.now) strip.new result) }
+        ensures laws { WholeLifeLaws }
     {
         let index = self.index();
         let lent = Tables { roll, register };
@@ -84,11 +82,9 @@ impl OpenLevy {
                 kept: self,
             });
         }
-        let OpenLevy {
-            figures,
-            launch_date,
-            event,
-        } = self;
+        let OpenLevy { zone, event } = self;
+        let LaunchedZone { core, launch_date } = zone;
+        let figures = core.figures;
         let increase = increase_of(&event, index, &roll[..figures.operators]);
         let objects = Objects {
             items: &register[..figures.objects],
@@ -101,10 +97,12 @@ impl OpenLevy {
             credit_lines: figures.totals.credit_lines + moved.credit_lines,
         };
         let zone = LaunchedZone {
-            figures: Figures {
-                operators,
-                totals,
-                ..figures
+            core: Core {
+                figures: Figures {
+                    operators,
+                    totals,
+                    ..figures
+                },
             },
             launch_date,
         };

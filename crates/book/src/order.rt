@@ -29,19 +29,19 @@ use tariff::tariff::Tariff;
 impl PreparedZone {
     // A launch: tables and date.
     pub(crate) fn check_launch(&self, lent: Tables<'_>, date: u32) -> Result<(), Refusal>
-        ensures answer { result ≡ in_turn (tables_check self.now.figures (tables lent.entry.roll.now lent.entry.register.now) ∷ []) (date_checks self.now.figures date ∷ []) }
+        ensures answer { result ≡ in_turn (tables_check self.now.core.figures (tables lent.entry.roll.now lent.entry.register.now) ∷ []) (date_checks self.now.core.figures date ∷ []) }
     {
-        check_tables(&self.figures, lent)?;
-        check_date(&self.figures, date)
+        check_tables(&self.core.figures, lent)?;
+        check_date(&self.core.figures, date)
     }
 
     // A commitment or raise before the launch: tables, date and roll.
     pub(crate) fn check_subscription(&self, lent: Tables<'_>, event: &Event) -> Result<(), Refusal>
-        ensures answer { result ≡ in_turn (tables_check self.now.figures (tables lent.entry.roll.now lent.entry.register.now) ∷ []) (date_checks self.now.figures event.now.date ∷ roll_checks self.now.figures (tables lent.entry.roll.now lent.entry.register.now) event.now ∷ []) }
+        ensures answer { result ≡ in_turn (tables_check self.now.core.figures (tables lent.entry.roll.now lent.entry.register.now) ∷ []) (date_checks self.now.core.figures event.now.date ∷ roll_checks self.now.core.figures (tables lent.entry.roll.now lent.entry.register.now) event.now ∷ []) }
     {
-        check_tables(&self.figures, lent)?;
-        check_date(&self.figures, event.date)?;
-        check_roll(&self.figures, lent, event)
+        check_tables(&self.core.figures, lent)?;
+        check_date(&self.core.figures, event.date)?;
+        check_roll(&self.core.figures, lent, event)
     }
 }
 
@@ -54,14 +54,14 @@ impl LaunchedZone {
         places: usize,
         object: &RegisterEntry,
     ) -> Result<(), Refusal>
-        ensures answer { result ≡ in_turn (tables_check self.now.figures (tables lent.entry.roll.now lent.entry.register.now) ∷ []) (date_checks self.now.figures object.now.installed ∷ (index_check self.now.launch_date object.now.installed ∷ []) ∷ register_checks self.now.figures (tables lent.entry.roll.now lent.entry.register.now) object.now ∷ (price_check (T.meaning sheet.now) (object.now ∷ []) ∷ []) ∷ ((nat_lt places self.now.figures.operators ⇒ StripTooShort) ∷ []) ∷ []) }
+        ensures answer { result ≡ in_turn (tables_check self.now.core.figures (tables lent.entry.roll.now lent.entry.register.now) ∷ []) (date_checks self.now.core.figures object.now.installed ∷ (index_check self.now.launch_date object.now.installed ∷ []) ∷ register_checks self.now.core.figures (tables lent.entry.roll.now lent.entry.register.now) object.now ∷ (price_check (T.meaning sheet.now) (object.now ∷ []) ∷ []) ∷ ((nat_lt places self.now.core.figures.operators ⇒ StripTooShort) ∷ []) ∷ []) }
     {
-        check_tables(&self.figures, lent)?;
-        check_date(&self.figures, object.installed)?;
+        check_tables(&self.core.figures, lent)?;
+        check_date(&self.core.figures, object.installed)?;
         check_index(self.launch_date, object.installed)?;
-        check_register(&self.figures, lent, object)?;
+        check_register(&self.core.figures, lent, object)?;
         check_prices(sheet, slice::from_ref(object))?;
-        check_strip(places, self.figures.operators)
+        check_strip(places, self.core.figures.operators)
     }
 
     // A commitment or raise that bills: tables, date, index, roll, prices, coefficients and strip.
@@ -73,7 +73,7 @@ impl LaunchedZone {
         event: &Event,
     ) -> Result<(), Refusal>
         ensures answer { let m = T.meaning sheet.now in
-            let f = self.now.figures in
+            let f = self.now.core.figures in
             let t = tables_in lent.entry in
             let objects = counted_register f t in
             result ≡ in_turn (tables_check f t ∷ [])
@@ -84,13 +84,13 @@ impl LaunchedZone {
             (coefficient_check m event.now.date objects ∷ []) ∷
             ((nat_lt places (lines_billed event.now.date objects) ⇒ StripTooShort) ∷ []) ∷ []) }
     {
-        check_tables(&self.figures, lent)?;
-        check_date(&self.figures, event.date)?;
+        check_tables(&self.core.figures, lent)?;
+        check_date(&self.core.figures, event.date)?;
         check_index(self.launch_date, event.date)?;
-        check_roll(&self.figures, lent, event)?;
+        check_roll(&self.core.figures, lent, event)?;
         check_bill(
             sheet,
-            &lent.register[..self.figures.objects],
+            &lent.register[..self.core.figures.objects],
             event.date,
             places,
         )
@@ -106,22 +106,22 @@ impl OpenLevy {
         places: usize,
     ) -> Result<(), Refusal>
         ensures answer { let m = T.meaning sheet.now in
-            let f = self.now.figures in
+            let f = self.now.zone.core.figures in
             let t = tables_in lent.entry in
             let objects = counted_register f t in
-            let a = added f self.now.launch_date t self.now.event in
+            let a = added f self.now.zone.launch_date t self.now.event in
             result ≡ in_turn (tables_check f t ∷ [])
             (roll_checks f t self.now.event ∷
             (price_check m objects ∷ []) ∷
             ((nat_lt places (lines_shared m a objects (counted_members f t)) ⇒ StripTooShort) ∷ []) ∷ []) }
     {
-        check_tables(&self.figures, lent)?;
-        check_roll(&self.figures, lent, &self.event)?;
+        check_tables(&self.zone.core.figures, lent)?;
+        check_roll(&self.zone.core.figures, lent, &self.event)?;
         let operators = Operators {
-            items: &lent.roll[..self.figures.operators],
+            items: &lent.roll[..self.zone.core.figures.operators],
         };
         let objects = Objects {
-            items: &lent.register[..self.figures.objects],
+            items: &lent.register[..self.zone.core.figures.objects],
         };
         let increase = increase_of(&self.event, self.index(), operators.items);
         check_shares(sheet, increase, objects, operators, places)

@@ -1,11 +1,11 @@
-// A zone before its launch.
-ghost use Rattle.std.specs.Prelude.{IfErr, [], ◌≡◌, ◌≤◌};
-ghost use Rattle.book.specs.Limits.{most_operators, most_objects};
+// A zone before its launch, and the calls that it takes: commitments and raises without charge, and the launch.
+ghost use Rattle.std.specs.Prelude.{◌≡◌, [], IfErr};
 ghost use Rattle.tariff.specs.Meaning.{Meaning, Lawful};
-ghost use Rattle.book.specs.Answers.{launching, subscription};
-ghost use Rattle.book.specs.Calls.{commitment as call_commitment, raise as call_raise, launch as call_launch, commitment_event, raise_event};
+ghost use Rattle.book.specs.Answers.{subscription};
+ghost use Rattle.book.specs.Calls.{commitment as call_commitment, raise as call_raise, launch as call_launch};
 ghost use Rattle.book.specs.Passing.{tables};
 ghost use Rattle.book.specs.Zone.{no_figures};
+ghost use Rattle.book.specs.Zone as spec;
 
 use crate::adding::increase_of;
 use crate::enter::enter;
@@ -13,47 +13,45 @@ use crate::entries::{RegisterEntry, RollEntry};
 use crate::launched::LaunchedZone;
 use crate::refused::Refused;
 use crate::tables::Tables;
-use crate::zone::{Change, Event, Figures, Totals};
+use crate::zone::{Change, Core, Event, Figures, Totals};
 
-// It takes commitments and raises without charge, and its launch. It is moved from call to call, and keeps what a zone
-// can never exceed.
+// It is moved from call to call.
 #[derive(Drop)]
 pub struct PreparedZone {
-    pub(crate) figures: Figures,
-    ghost few_operators: { figures.operators ≤ most_operators },
-    ghost few_objects: { figures.objects ≤ most_objects },
+    pub(crate) core: Core,
 }
 
 impl PreparedZone {
-    // The zone's plain numbers.
-    pub const fn figures(&self) -> Figures
-        ensures value { result ≡ self.now.figures }
-    {
-        self.figures
-    }
-}
-
-impl PreparedZone {
-    ghost use Rattle.book.specs.Promises.{prepared, launched_on, answered, LivesBegin, LivesOn};
+    ghost use Rattle.book.specs.Promises.{prepared, launched_on, answered, IsAnswered, LivesBegin, WholeLifeLaws};
 
     // An empty zone: no date yet, no entry counted, nothing moved.
     pub const fn new() -> PreparedZone
-        ensures value { result.figures ≡ no_figures }
+        ensures value { (t : spec.Tables) → (prepared result t).figures ≡ no_figures }
         ensures life { (m : Meaning) → Lawful m → LivesBegin m result }
+        ensures laws { WholeLifeLaws }
     {
         PreparedZone {
-            figures: Figures {
-                last: None,
-                operators: 0,
-                objects: 0,
-                totals: Totals {
-                    contributed: 0,
-                    credited: 0,
-                    unshared: 0,
-                    credit_lines: 0,
+            core: Core {
+                figures: Figures {
+                    last: None,
+                    operators: 0,
+                    objects: 0,
+                    totals: Totals {
+                        contributed: 0,
+                        credited: 0,
+                        unshared: 0,
+                        credit_lines: 0,
+                    },
                 },
             },
         }
+    }
+
+    // The zone's plain numbers.
+    pub const fn figures(&self) -> Figures
+        ensures value { (t : spec.Tables) → result ≡ (prepared self.now t).figures }
+    {
+        self.core.figures
     }
 
     // An operator commits itself to a rate, without charge.
@@ -65,9 +63,12 @@ impl PreparedZone {
         operator: u32,
         rate: u32,
     ) -> Result<PreparedZone, Refused<PreparedZone>>
-        ensures answer { answered prepared (tables roll.new register.now) [] result ≡ subscription self.figures (tables roll.old register.now) (commitment_event date operator rate) }
+        ensures call { let before = tables roll.old register.now in
+            let after = tables roll.new register.now in
+            (m : Meaning) → IsAnswered m (prepared self before) (call_commitment date operator rate)
+            [] [] 0 (answered prepared after result) }
         ensures kept { IfErr result (λ back. (back.kept ≡ self) × (roll.new ≡ roll.old)) }
-        ensures life { (m : Meaning) → Lawful m → LivesOn m (prepared self (tables roll.old register.now)) (call_commitment date operator rate) (answered prepared (tables roll.new register.now) [] result) }
+        ensures laws { WholeLifeLaws }
     {
         let event = Event {
             change: Change::Commitment,
@@ -87,9 +88,12 @@ impl PreparedZone {
         operator: u32,
         rate: u32,
     ) -> Result<PreparedZone, Refused<PreparedZone>>
-        ensures answer { answered prepared (tables roll.new register.now) [] result ≡ subscription self.figures (tables roll.old register.now) (raise_event date operator rate) }
+        ensures call { let before = tables roll.old register.now in
+            let after = tables roll.new register.now in
+            (m : Meaning) → IsAnswered m (prepared self before) (call_raise date operator rate)
+            [] [] 0 (answered prepared after result) }
         ensures kept { IfErr result (λ back. (back.kept ≡ self) × (roll.new ≡ roll.old)) }
-        ensures life { (m : Meaning) → Lawful m → LivesOn m (prepared self (tables roll.old register.now)) (call_raise date operator rate) (answered prepared (tables roll.new register.now) [] result) }
+        ensures laws { WholeLifeLaws }
     {
         let event = Event {
             change: Change::Raise,
@@ -107,17 +111,21 @@ impl PreparedZone {
         register: &[RegisterEntry],
         date: u32,
     ) -> Result<LaunchedZone, Refused<PreparedZone>>
-        ensures answer { answered launched_on (tables roll.now register.now) [] result ≡ launching self.figures (tables roll.now register.now) date }
+        ensures call { let t = tables roll.now register.now in
+            (m : Meaning) → IsAnswered m (prepared self t) (call_launch date)
+            [] [] 0 (answered launched_on t result) }
         ensures kept { IfErr result (λ back. back.kept ≡ self) }
-        ensures life { (m : Meaning) → Lawful m → LivesOn m (prepared self (tables roll.now register.now)) (call_launch date) (answered launched_on (tables roll.now register.now) [] result) }
+        ensures laws { WholeLifeLaws }
     {
         match self.check_launch(Tables { roll, register }, date) {
             Ok(()) => {
-                let PreparedZone { figures } = self;
+                let PreparedZone { core } = self;
                 Ok(LaunchedZone {
-                    figures: Figures {
-                        last: Some(date),
-                        ..figures
+                    core: Core {
+                        figures: Figures {
+                            last: Some(date),
+                            ..core.figures
+                        },
                     },
                     launch_date: date,
                 })
@@ -136,19 +144,24 @@ impl PreparedZone {
         register: &[RegisterEntry],
         event: Event,
     ) -> Result<PreparedZone, Refused<PreparedZone>>
-        ensures answer { answered prepared (tables roll.new register.now) [] result ≡ subscription self.figures (tables roll.old register.now) event }
+        ensures answer { let before = tables roll.old register.now in
+            let after = tables roll.new register.now in
+            answered prepared after result ≡ subscription self.core.figures before event }
         ensures kept { IfErr result (λ back. (back.kept ≡ self) × (roll.new ≡ roll.old)) }
     {
         match self.check_subscription(Tables { roll, register }, &event) {
             Ok(()) => {
-                let PreparedZone { figures } = self;
+                let PreparedZone { core } = self;
+                let figures = core.figures;
                 let increase = increase_of(&event, 0, &roll[..figures.operators]);
                 let operators = enter(increase, roll, figures.operators);
                 Ok(PreparedZone {
-                    figures: Figures {
-                        last: Some(event.date),
-                        operators,
-                        ..figures
+                    core: Core {
+                        figures: Figures {
+                            last: Some(event.date),
+                            operators,
+                            ..figures
+                        },
                     },
                 })
             }

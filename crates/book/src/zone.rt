@@ -1,4 +1,6 @@
 // The plain numbers of a zone, and the event that an open levy keeps.
+ghost use Rattle.std.specs.Prelude.{◌≤◌};
+ghost use Rattle.book.specs.Limits.{most_operators, most_objects};
 
 // What share-outs have moved, in micro-euros, and how many credit lines they wrote.
 #[derive(Clone, Copy)]
@@ -17,6 +19,14 @@ pub struct Figures {
     pub operators: usize,
     pub objects: usize,
     pub totals: Totals,
+}
+
+// What a zone keeps in every state: its plain numbers, within what it can ever count.
+#[derive(Clone, Copy)]
+pub(crate) struct Core {
+    pub(crate) figures: Figures,
+    ghost few_operators: { figures.operators ≤ most_operators },
+    ghost few_objects: { figures.objects ≤ most_objects },
 }
 
 // How an operator subscribes: by a first commitment, or by a raise of its rate.

@@ -1,8 +1,11 @@
-use Rattle.std.proofs.Common.{◌≡◌, length, Ok, refl, ap, ◌∙◌, arith}
+use Rattle.std.proofs.Common.{◌≡◌, T, length, Ok, sym, refl, ap, ◌∙◌, subst, arith}
 use Rattle.refusal.specs.Checks.{first}
 use Rattle.refusal.proofs.First.{carried, still_refused}
-use Rattle.book.specs.Members.{addition}
-use Rattle.book.specs.Zone.{strip_after, counted_members}
+use Rattle.calendar.specs.Days.{is_date}
+use Rattle.book.specs.Members.{Addition, addition}
+use Rattle.book.specs.Zone.{strip_after, counted_members, counted_register}
+use Rattle.book.specs.Billing.{bill}
+use Rattle.book.specs.Promises.{line_count}
 use Rattle.book.specs.Answers.{added, billing_checks, billing_effect}
 use Rattle.book.specs.Increases.{addition_in}
 use Rattle.book.specs.Passing.{tables}
@@ -11,17 +14,17 @@ use Rattle.book.proofs.launched.LaunchedZone.billed.Goals as goal
 use Rattle.book.proofs.launched.LaunchedZone.billed.Goals.{In-Ok, After-increase_of-increase}
 use Rattle.book.proofs.launched.LaunchedZone.billed.Given as given
 
-able : (g : given.Over) (c : In-Ok g) → Billable (g.T.Tariff.meaning c.args.sheet.now) c.args.self.figures c.args.self.launch_date (tables c.args.roll.now c.args.register.now) (length c.args.strip.now) c.args.event
+able : (g : given.Over) (c : In-Ok g) → Billable (g.T.Tariff.meaning c.args.sheet.now) c.args.self.core.figures c.args.self.launch_date (tables c.args.roll.now c.args.register.now) (length c.args.strip.now) c.args.event
 able g c =
     let m = g.T.Tariff.meaning c.args.sheet.now in
     let t = tables c.args.roll.now c.args.register.now in
-    billable m c.args.self.figures c.args.self.launch_date t (length c.args.strip.now) c.args.event _
-    (turned m c.args.self.figures c.args.self.launch_date t (length c.args.strip.now) c.args.event _ c.check_billing.ensures.answer ∙ c.in-Ok.is)
+    billable m c.args.self.core.figures c.args.self.launch_date t (length c.args.strip.now) c.args.event _
+    (turned m c.args.self.core.figures c.args.self.launch_date t (length c.args.strip.now) c.args.event _ c.check_billing.ensures.answer ∙ c.in-Ok.is)
 
 -- the code's increase is what the event adds
-adds : (g : given.Over) (c : After-increase_of-increase g) → addition_in c.increase_of-increase.result ≡ added c.args.self.figures c.args.self.launch_date (tables c.args.roll.now c.args.register.now) c.args.event
+adds : (g : given.Over) (c : After-increase_of-increase g) → addition_in c.increase_of-increase.result ≡ added c.args.self.core.figures c.args.self.launch_date (tables c.args.roll.now c.args.register.now) c.args.event
 adds g c =
-    let members = counted_members c.args.self.figures (tables c.args.roll.now c.args.register.now) in
+    let members = counted_members c.args.self.core.figures (tables c.args.roll.now c.args.register.now) in
     c.increase_of-increase.ensures.value ∙ ap (λ n. addition n c.args.event members) c.year_index-index.ensures.value
 
 pub increase_of-increase-requires-clause-index : goal.increase_of-increase-requires-clause-index
@@ -29,17 +32,25 @@ increase_of-increase-requires-clause-index g c =
     let a = able g (goal.at.increase_of-increase-requires-clause-index g c).In-Ok in
     omega (arith, a.in_time, c.year_index-index.ensures.value)
 
+pub increase_of-increase-requires-clause-rate : goal.increase_of-increase-requires-clause-rate
+increase_of-increase-requires-clause-rate g c = (able g (goal.at.increase_of-increase-requires-clause-rate g c).In-Ok).rate
+
+pub bill-lines-requires-clause-real : goal.bill-lines-requires-clause-real
+bill-lines-requires-clause-real g c =
+    let is = adds g (goal.at.bill-lines-requires-clause-real g c).After-increase_of-increase in
+    subst (λ (a : Addition). T (is_date a.date)) (sym is) (able g (goal.at.bill-lines-requires-clause-real g c).In-Ok).real
+
 pub bill-lines-requires-clause-room : goal.bill-lines-requires-clause-room
 bill-lines-requires-clause-room g c =
     let m = g.T.Tariff.meaning c.args.sheet.now in
     let a = able g (goal.at.bill-lines-requires-clause-room g c).In-Ok in
     let is = adds g (goal.at.bill-lines-requires-clause-room g c).After-increase_of-increase in
-    room_for m c.args.self.figures c.args.self.launch_date (tables c.args.roll.now c.args.register.now) (length c.args.strip.now) c.args.event _ is a.room
+    room_for m c.args.self.core.figures c.args.self.launch_date (tables c.args.roll.now c.args.register.now) (length c.args.strip.now) c.args.event _ is a.room
 
 pub returns-in-Ok : goal.returns-in-Ok
 returns-in-Ok g c =
     let m = g.T.Tariff.meaning c.args.sheet.now in
-    let f = c.args.self.figures in
+    let f = c.args.self.core.figures in
     let d = c.args.self.launch_date in
     let t = tables c.args.roll.now c.args.register.now in
     let places = length c.args.strip.now in
@@ -47,18 +58,21 @@ returns-in-Ok g c =
     let is = adds g (goal.at.returns-in-Ok g c).After-increase_of-increase in
     let accepted = carried (first (billing_checks m f d t places v)) tt _ (λ _. billing_effect m f d t v) (turned m f d t places v _ c.check_billing.ensures.answer ∙ c.in-Ok.is) in
     record {
-      answer = ap Ok (billed_is m f d t places v _ c.args.strip.now _ _ is c.bill-lines.ensures.number c.bill-lines.ensures.strip) ∙ accepted;
-      strip = written_is m f d t places v _ c.args.strip.now _ is c.bill-lines.ensures.strip ∙ ap (strip_after c.args.strip.now) accepted;
+      answer = record {
+        given = ap Ok (billed_is m f d t places v _ c.args.strip.now _ _ is c.bill-lines.ensures.number c.bill-lines.ensures.strip) ∙ accepted;
+        strip = written_is m f d t places v _ c.args.strip.now _ is c.bill-lines.ensures.strip ∙ ap (strip_after c.args.strip.now) accepted;
+        count = c.bill-lines.ensures.number ∙ ap (λ a. length (bill m a (counted_register f t))) is ∙ ap line_count accepted;
+      };
       kept = tt;
     }
 
 pub returns-in-Err : goal.returns-in-Err
 returns-in-Err g c =
     let m = g.T.Tariff.meaning c.args.sheet.now in
-    let f = c.args.self.figures in
+    let f = c.args.self.core.figures in
     let d = c.args.self.launch_date in
     let t = tables c.args.roll.now c.args.register.now in
     let places = length c.args.strip.now in
     let v = c.args.event in
     let refused = still_refused (first (billing_checks m f d t places v)) tt (billing_effect m f d t v) _ (turned m f d t places v _ c.check_billing.ensures.answer ∙ c.in-Err.is) in
-    record { answer = refused; strip = ap (strip_after c.args.strip.now) refused; kept = refl }
+    record { answer = record { given = refused; strip = ap (strip_after c.args.strip.now) refused; count = ap line_count refused }; kept = refl }

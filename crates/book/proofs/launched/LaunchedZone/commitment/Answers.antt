@@ -1,21 +1,20 @@
-use Rattle.std.proofs.Common.{length, Some, refl, sym, ap, ◌∙◌}
-use Rattle.book.specs.Zone.{strip_after}
+use Rattle.std.proofs.Common.{length, refl}
 use Rattle.book.specs.Calls.{commitment, commitment_event}
 use Rattle.book.specs.Answers.{billing}
 use Rattle.book.specs.Passing.{tables}
 use Rattle.book.specs.Promises.{launched_on}
-use Rattle.book.proofs.Living.{lives_on}
+use Rattle.book.proofs.Living.{is_answered, whole_life_laws}
 use Rattle.book.proofs.launched.LaunchedZone.commitment.Goals as goal
 
 pub returns : goal.returns
 returns g c =
     let m = g.T.Tariff.meaning c.args.sheet.now in
-    let law = g.T.Tariff.lawful c.args.sheet.now in
     let zone = c.args.self in
     let t = tables c.args.roll.now c.args.register.now in
-    let places = length c.args.strip.now in
     let v = commitment_event c.args.date c.args.operator c.args.rate in
+    let said = billing m zone.core.figures zone.launch_date t (length c.args.strip.now) v in
     record {
+      call = is_answered m (launched_on zone t) (commitment c.args.date c.args.operator c.args.rate) c.args.strip.now _ _ _ said refl c.billed.ensures.answer;
       kept = c.billed.ensures.kept;
-      call = record { given = ap Some (sym c.billed.ensures.answer); strip = c.billed.ensures.strip ∙ ap (strip_after c.args.strip.now) (sym c.billed.ensures.answer); life = lives_on m law (launched_on zone t) places (commitment c.args.date c.args.operator c.args.rate) (billing m zone.figures zone.launch_date t places v) _ refl c.billed.ensures.answer };
+      laws = whole_life_laws;
     }

@@ -16,7 +16,7 @@ past r u next passes = ap (λ x. then_do x (λ _. next)) (sym passes)
 pub returns : goal.returns
 returns g c =
     let m = g.T.Tariff.meaning c.args.sheet.now in
-    let f = c.args.self.now.figures in
+    let f = c.args.self.now.zone.core.figures in
     let t = tables c.args.lent.roll.now c.args.lent.register.now in
     let lawful = sym c.check_tables.ensures.answer ∙ c.in_ok-check_tables.was in
     let rolled = sym c.check_roll.ensures.answer ∙ c.in_ok-check_roll.was in

@@ -9,12 +9,19 @@ use Rattle.book.proofs.Admitting.{rates_sound}
 use Rattle.book.proofs.Joining.{subscribable, room_of, subscription_done}
 use Rattle.book.proofs.prepared.PreparedZone.subscribed.Goals as goal
 
-pub enter-operators-requires : goal.enter-operators-requires
-enter-operators-requires c =
-    let f = c.args.self.figures in
+pub increase_of-increase-requires-clause-rate : goal.increase_of-increase-requires-clause-rate
+increase_of-increase-requires-clause-rate c =
+    let f = c.args.self.core.figures in
     let t = tables c.args.roll.now c.args.register.now in
     let v = c.args.event in
-    let s = subscribable f t v _ c.args.self.few_operators (sym (in_turn_is (tables_check f t ∷ []) (date_checks f v.date ∷ roll_checks f t v ∷ [])) ∙ sym c.check_subscription.ensures.answer ∙ c.in-Ok.is) in
+    (subscribable f t v _ c.args.self.core.few_operators (sym (in_turn_is (tables_check f t ∷ []) (date_checks f v.date ∷ roll_checks f t v ∷ [])) ∙ sym c.check_subscription.ensures.answer ∙ c.in-Ok.is)).rate
+
+pub enter-operators-requires : goal.enter-operators-requires
+enter-operators-requires c =
+    let f = c.args.self.core.figures in
+    let t = tables c.args.roll.now c.args.register.now in
+    let v = c.args.event in
+    let s = subscribable f t v _ c.args.self.core.few_operators (sym (in_turn_is (tables_check f t ∷ []) (date_checks f v.date ∷ roll_checks f t v ∷ [])) ∙ sym c.check_subscription.ensures.answer ∙ c.in-Ok.is) in
     let is = c.increase_of-increase.ensures.value in
     record {
       counted = s.tables_in.roll_long;
@@ -24,19 +31,19 @@ enter-operators-requires c =
 
 pub invariant_of-result : goal.invariant_of-result
 invariant_of-result c =
-    let f = c.args.self.figures in
+    let f = c.args.self.core.figures in
     let t = tables c.args.roll.now c.args.register.now in
     let v = c.args.event in
-    let s = subscribable f t v _ c.args.self.few_operators (sym (in_turn_is (tables_check f t ∷ []) (date_checks f v.date ∷ roll_checks f t v ∷ [])) ∙ sym c.check_subscription.ensures.answer ∙ c.in-Ok.is) in
+    let s = subscribable f t v _ c.args.self.core.few_operators (sym (in_turn_is (tables_check f t ∷ []) (date_checks f v.date ∷ roll_checks f t v ∷ [])) ∙ sym c.check_subscription.ensures.answer ∙ c.in-Ok.is) in
     let is = c.increase_of-increase.ensures.value in
     record {
       few_operators = rw c.enter-operators.ensures.number (room_of _ _ (counted_roll f t) 16 is s.fits.0);
-      few_objects = c.args.self.few_objects;
+      few_objects = c.args.self.core.few_objects;
     }
 
 pub returns-in-Ok : goal.returns-in-Ok
 returns-in-Ok c =
-    let f = c.args.self.figures in
+    let f = c.args.self.core.figures in
     let t = tables c.args.roll.now c.args.register.now in
     let v = c.args.event in
     let is = c.increase_of-increase.ensures.value in
@@ -48,7 +55,7 @@ returns-in-Ok c =
 
 pub returns-in-Err : goal.returns-in-Err
 returns-in-Err c =
-    let f = c.args.self.figures in
+    let f = c.args.self.core.figures in
     let t = tables c.args.roll.now c.args.register.now in
     let v = c.args.event in
     record {
