@@ -7,7 +7,6 @@ mod call_checks;
 mod counted;
 mod enter;
 pub mod entries;
-pub mod examples;
 mod increase;
 pub mod launched;
 pub mod laws;
