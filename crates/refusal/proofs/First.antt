@@ -3,31 +3,32 @@ use Rattle.std.proofs.Common.{◌≡◌, ℕ, Bool, true, false, cond, List, [],
 use Rattle.refusal.specs.Checks.{Check, first, unless, passing, then_do, in_turn}
 use Rattle.refusal.specs.declared.Refusal.{Refusal}
 
--- a check alone: whether it holds, by what it gave
-by_test : {A : Type 0} (b : Bool) (r : Refusal) (a : A) → (e : Refusal) → unless (cond b (Some r) None) a ≡ Err e → (b ≡ true) × (r ≡ e)
-by_test true r a e is = (refl, cc)
-by_test false r a e is = let no : ◌≡◌ {A = ℕ} 0 1 = cc in absurd (omega arith)
-
-by_pass : {A : Type 0} (b : Bool) (r : Refusal) (a x : A) → unless (cond b (Some r) None) a ≡ Ok x → (b ≡ false) × (a ≡ x)
+-- a check that let a value through: it did not hold, and the value is its own
+by_pass : {A : Type 0} (b : Bool) (r : Refusal) (a x : A) → unless (cond b (Some r) None) a ≡ Ok x → b ≡ false
 by_pass true r a x is = let no : ◌≡◌ {A = ℕ} 0 1 = cc in absurd (omega arith)
-by_pass false r a x is = (refl, cc)
+by_pass false r a x is = refl
 
-pub held : {A : Type 0} (k : Check) (a : A) (e : Refusal) → unless (first (k ∷ [])) a ≡ Err e → (k.holds ≡ true) × (k.says ≡ e)
-held k a e is = by_test k.holds k.says a e is
-
-pub passed : {A : Type 0} (k : Check) (a x : A) → unless (first (k ∷ [])) a ≡ Ok x → (k.holds ≡ false) × (a ≡ x)
+pub passed : {A : Type 0} (k : Check) (a x : A) → unless (first (k ∷ [])) a ≡ Ok x → k.holds ≡ false
 passed k a x is = by_pass k.holds k.says a x is
 
--- in a list of checks
-pub first_here : {A : Type 0} (k : Check) (ks : List Check) (a : A) (e : Refusal) → (k.holds ≡ true) × (k.says ≡ e) → Err e ≡ unless (first (k ∷ ks)) a
-first_here k ks a e holds = rw holds.0 (ap Err (sym holds.1))
+pub let_through : {A : Type 0} (o : Option Refusal) (a x : A) → unless o a ≡ Ok x → a ≡ x
+let_through None a x is = cc
+let_through (Some r) a x is = let no : ◌≡◌ {A = ℕ} 0 1 = cc in absurd (omega arith)
 
-pub first_next : {A : Type 0} (k : Check) (ks : List Check) (a : A) → k.holds ≡ false → unless (first ks) a ≡ unless (first (k ∷ ks)) a
-first_next k ks a passes = rw passes
+-- a place that let something through leaves those after it, one that did not gives the refusal, and the last one answers
+pub later_places : {A B : Type 0} (place : List Check) (places : List (List Check)) (b : B) (a x : A) → unless (first place) a ≡ Ok x → in_turn places b ≡ in_turn (place ∷ places) b
+later_places {A = A} {B = B} place places b a x is = go (first place) is
+  where
+    go : (o : Option Refusal) → unless o a ≡ Ok x → in_turn places b ≡ then_do (unless o (tt {0})) (λ _. in_turn places b)
+    go None h = refl
+    go (Some r) h = let no : ◌≡◌ {A = ℕ} 0 1 = cc in absurd (omega arith)
 
--- a place that passed leaves those after it, and the last one answers
-pub later_places : (place : List Check) (places : List (List Check)) (u : Unit {0}) → passing place ≡ Ok u → in_turn places (tt {0}) ≡ in_turn (place ∷ places) (tt {0})
-later_places place places u is = ap (λ r. then_do r (λ _. in_turn places (tt {0}))) (sym is)
+pub refused_here : {A B : Type 0} (place : List Check) (places : List (List Check)) (b : B) (a : A) (e : Refusal) → unless (first place) a ≡ Err e → Err e ≡ in_turn (place ∷ places) b
+refused_here {A = A} {B = B} place places b a e is = go (first place) is
+  where
+    go : (o : Option Refusal) → unless o a ≡ Err e → Err e ≡ then_do (unless o (tt {0})) (λ _. in_turn places b)
+    go None h = let no : ◌≡◌ {A = ℕ} 0 1 = cc in absurd (omega arith)
+    go (Some r) h = let same : r ≡ e = cc in ap Err (sym same)
 
 pub last_place : (place : List Check) → passing place ≡ in_turn (place ∷ []) (tt {0})
 last_place place = go (first place)

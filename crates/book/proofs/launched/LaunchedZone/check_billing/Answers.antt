@@ -29,8 +29,8 @@ returns g c =
       answer = c.check_strip.ensures.answer
           ∙ last_place (strip_checks c.args.places _)
           ∙ ap (λ n. in_turn (strip_checks c.args.places n ∷ []) (tt {0})) lines
-          ∙ later_places (sheet_checks m v.date objects) from_strip _ sheet
-          ∙ later_places (roll_checks f t v) from_sheet _ roll
-          ∙ later_places (launched_date_checks f c.args.self.now.launch_date v.date) from_roll _ date
-          ∙ later_places (table_checks f t) from_date _ tables;
+          ∙ later_places (sheet_checks m v.date objects) from_strip (tt {0}) (tt {0}) _ sheet
+          ∙ later_places (roll_checks f t v) from_sheet (tt {0}) (tt {0}) _ roll
+          ∙ later_places (launched_date_checks f c.args.self.now.launch_date v.date) from_roll (tt {0}) (tt {0}) _ date
+          ∙ later_places (table_checks f t) from_date (tt {0}) (tt {0}) _ tables;
     }

@@ -31,7 +31,7 @@ returns g c =
       answer = c.check_strip.ensures.answer
           ∙ last_place (strip_checks c.args.places _)
           ∙ ap (λ n. in_turn (strip_checks c.args.places n ∷ []) (tt {0})) lines
-          ∙ later_places (price_checks m objects) from_strip _ prices
-          ∙ later_places (roll_checks f t c.args.self.now.event) from_sheet _ roll
-          ∙ later_places (table_checks f t) from_roll _ tables;
+          ∙ later_places (price_checks m objects) from_strip (tt {0}) (tt {0}) _ prices
+          ∙ later_places (roll_checks f t c.args.self.now.event) from_sheet (tt {0}) (tt {0}) _ roll
+          ∙ later_places (table_checks f t) from_roll (tt {0}) (tt {0}) _ tables;
     }
