@@ -62,6 +62,9 @@ price_most m law kind installed real = price_found (m.price kind installed) (law
 abbrev pub Sized : RegisterEntry → Type 0
 Sized o = (o.dwellings ≤ 10000) × T (is_date o.installed)
 
+pub real_day : (o : RegisterEntry) → Sized o → T (is_date o.installed)
+real_day o sized = let (few, real) = sized in real
+
 -- a unit contribution is at most price × tranches
 pub unit_most : (m : Meaning) → Lawful m → (kind : Kind) (installed date k : ℕ) → T (is_date installed) → k ≤ 20 → unit_contribution m kind installed date k ≤ 500000000 * k
 unit_most m law kind installed date k real few = go (earlier installed date)

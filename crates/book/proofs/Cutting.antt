@@ -17,7 +17,7 @@ use Rattle.book.specs.declared.lines.Line.{Line}
 use Rattle.book.specs.declared.lines.Nature.{Nature}
 use Rattle.book.specs.declared.lines.Nature.TheVariants.{Charge, Contribution}
 use Rattle.book.proofs.Totals.{total_same, total_zero, total_scaled}
-use Rattle.book.proofs.Amounts.{Sized, price_most}
+use Rattle.book.proofs.Amounts.{Sized, price_most, real_day}
 
 -- numbers a × k for each k of a list, each rounded over d, and the one of their sum
 module _ (m : Meaning) (law : Lawful m) (a d : ℕ) (pos : 0 < d) (small : d ≤ 240000000) where
@@ -157,7 +157,7 @@ module _ (m : Meaning) (law : Lawful m) (op date index ob : ℕ) (ks : List ℕ)
     where
       go : (hit : Bool) → Apart (length ks) (shown Charge os (total (λ k. k) ks)) (total (shown Charge os) ks) →
           Apart (length ks) (cond hit (unit_price m o.kind o.installed date (total (λ k. k) ks)) (shown Charge os (total (λ k. k) ks))) (total (λ k. cond hit (unit_price m o.kind o.installed date k) (shown Charge os k)) ks)
-      go true r = price_apart m law o.kind o.installed date ks few sized.0.1 today
+      go true r = price_apart m law o.kind o.installed date ks few (real_day o sized.0) today
       go false r = r
 
   pub contributions_apart : (os : List RegisterEntry) → AllByRecursion Sized os → Apart (length ks) (shown Contribution os (total (λ k. k) ks)) (total (shown Contribution os) ks)
@@ -172,6 +172,6 @@ module _ (m : Meaning) (law : Lawful m) (op date index ob : ℕ) (ks : List ℕ)
       go : (b hit : Bool) → Apart (length ks) (shown Contribution os (total (λ k. k) ks)) (total (shown Contribution os) ks) →
           Apart (length ks) (cond b (cond hit (unit_contribution m o.kind o.installed date (total (λ k. k) ks)) (shown Contribution os (total (λ k. k) ks))) (shown Contribution os (total (λ k. k) ks)))
           (total (λ k. cond b (cond hit (unit_contribution m o.kind o.installed date k) (shown Contribution os k)) (shown Contribution os k)) ks)
-      go true true r = contribution_apart m law o.kind o.installed date ks few sized.0.1 today
+      go true true r = contribution_apart m law o.kind o.installed date ks few (real_day o sized.0) today
       go true false r = r
       go false hit r = r
