@@ -8,6 +8,10 @@ use Rattle.tariff.specs.declared.kinds.Kind.{Kind}
 use Rattle.tariff.specs.declared.kinds.Coefficient.{Coefficient}
 use Rattle.unit_prices.specs.Prices.{price_at, coefficient_at, earlier, unit_price, unit_contribution}
 
+-- a price of some tranches
+pub price_fits : (p k : ℕ) → p ≤ 500000000 → k ≤ 20 → p * k ≤ 10000000000
+price_fits p k h few = mul-le-mul h few
+
 price_found : (p : Option ℕ) → Answered PriceLimits p → unwrap_or p 0 ≤ 500000000
 price_found None h = omega arith
 price_found (Some p) h = h.most

@@ -2,9 +2,9 @@
 -- definition too, once the dates are real and the tranches at most 20.
 use Rattle.std.specs.Option.{unwrap_or}
 use Rattle.std.specs.Result.{result_unwrap_or}
-use Rattle.std.proofs.Common.{◌≡◌, ℕ, ◌*◌, ◌<◌, ◌≤◌, Bool, true, false, cond, not, ◌&&◌, ◌||◌, leb, T, List, [], ◌∷◌, ◌++◌, Some, None, Ok, Err, Option, is_none, sym, refl, ap, subst, ⊎_elim, mul-le-mul, mul-le-mul_left, lt_of_mul-lt-mul_right, arith}
-use Rattle.std.proofs.lemmas.Bool.{not-false, not-true, or_parts, and_parts, and_cases, leb-true, leb-false}
-use Rattle.refusal.specs.Checks.{Check, ◌⇒◌, first, unless}
+use Rattle.std.proofs.Common.{◌≡◌, ℕ, ◌*◌, ◌<◌, ◌≤◌, Bool, true, false, cond, not, ◌&&◌, leb, T, List, [], ◌∷◌, ◌++◌, Some, None, Ok, Err, Option, is_none, sym, refl, ap, subst, ⊎_elim, mul-le-mul, mul-le-mul_left, lt_of_mul-lt-mul_right, arith}
+use Rattle.std.proofs.lemmas.Bool.{not-false, not-true, and_parts, and_cases, leb-true, leb-false}
+use Rattle.refusal.specs.Checks.{Check, ◌⇒◌, first, unless, passing}
 use Rattle.refusal.specs.declared.Refusal.{Refusal}
 use Rattle.refusal.specs.declared.Refusal.TheVariants.{NoDate, RateOutOfRange, NoPrice, NoCoefficient}
 use Rattle.calendar.specs.Days.{is_date, within}
@@ -14,6 +14,21 @@ use Rattle.tariff.specs.declared.kinds.Coefficient.{Coefficient}
 use Rattle.unit_prices.specs.Prices.{price_at, coefficient_at, earlier, unit_price, unit_contribution}
 use Rattle.unit_prices.specs.Refusals.{unit_price_checks, unit_contribution_checks}
 use Rattle.unit_prices.proofs.Bounds.{price_most, coefficient_limits}
+
+-- a check alone, and the checks that it begins
+stopped_by : {A : Type 0} (b : Bool) (r : Refusal) (o : Option Refusal) (a : A) (e : Refusal) → unless (cond b (Some r) None) (tt {0}) ≡ Err e → Err e ≡ unless (cond b (Some r) o) a
+stopped_by true r o a e is = let same : r ≡ e = cc in ap Err (sym same)
+stopped_by false r o a e is = let zero_one : ◌≡◌ {A = ℕ} 0 1 = cc in absurd (omega arith)
+
+pub stopped : {A : Type 0} (k : Check) (ks : List Check) (a : A) (e : Refusal) → passing (k ∷ []) ≡ Err e → Err e ≡ unless (first (k ∷ ks)) a
+stopped k ks a e is = stopped_by k.holds k.says (first ks) a e is
+
+went_on_by : {A : Type 0} (b : Bool) (r : Refusal) (o : Option Refusal) (a : A) (u : Unit {0}) → unless (cond b (Some r) None) (tt {0}) ≡ Ok u → unless o a ≡ unless (cond b (Some r) o) a
+went_on_by true r o a u is = let zero_one : ◌≡◌ {A = ℕ} 0 1 = cc in absurd (omega arith)
+went_on_by false r o a u is = refl
+
+pub went_on : {A : Type 0} (k : Check) (ks : List Check) (a : A) (u : Unit {0}) → passing (k ∷ []) ≡ Ok u → unless (first ks) a ≡ unless (first (k ∷ ks)) a
+went_on k ks a u is = went_on_by k.holds k.says (first ks) a u is
 
 -- checks that pass pass one by one
 first_passed : {A : Type 0} (b : Bool) (r : Refusal) (o : Option Refusal) (a x : A) → unless (cond b (Some r) o) a ≡ Ok x → (b ≡ false) × (unless o a ≡ Ok x)
@@ -38,20 +53,21 @@ through m kind installed date k p is =
     let a : ℕ = price_at m kind installed * k in
     let no_price : Bool = is_none (m.price kind installed) in
     let bad : Bool = not (within 1 k 20) in
-    let one = first_passed (not (is_date installed) || not (is_date date)) NoDate (cond bad (Some RateOutOfRange) (cond no_price (Some NoPrice) None)) a p is in
-    let two = first_passed bad RateOutOfRange (cond no_price (Some NoPrice) None) a p one.1 in
-    let three = first_passed no_price NoPrice None a p two.1 in
-    let dates = or_parts (not (is_date installed)) (not (is_date date)) one.0 in
+    let from_rate : Option Refusal = cond bad (Some RateOutOfRange) (cond no_price (Some NoPrice) None) in
+    let one = first_passed (not (is_date installed)) NoDate (cond (not (is_date date)) (Some NoDate) from_rate) a p is in
+    let two = first_passed (not (is_date date)) NoDate from_rate a p one.1 in
+    let three = first_passed bad RateOutOfRange (cond no_price (Some NoPrice) None) a p two.1 in
+    let four = first_passed no_price NoPrice None a p three.1 in
     record {
-      real = real_of installed dates.0;
-      today = real_of date dates.1;
-      few = leb-true k 20 (and_parts (leb 1 k) (leb k 20) (not-false (within 1 k 20) two.0)).1;
-      priced = none_left a p three.1;
+      real = real_of installed one.0;
+      today = real_of date two.0;
+      few = leb-true k 20 (and_parts (leb 1 k) (leb k 20) (not-false (within 1 k 20) three.0)).1;
+      priced = none_left a p four.1;
     }
 
 module _ (m : Meaning) (law : Lawful m) (kind : Kind) (installed date k p : ℕ) (is : unless (first (unit_contribution_checks m kind installed date k)) (price_at m kind installed * k) ≡ Ok p) where
-  pub price_fits : p ≤ 10000000000
-  price_fits =
+  pub plain_fits : p ≤ 10000000000
+  plain_fits =
       let past = through m kind installed date k p is in
       let a : price_at m kind installed * k ≤ 500000000 * 20 = mul-le-mul (price_most m law kind installed past.real) past.few in
       let e = past.priced in omega arith
@@ -66,7 +82,7 @@ refused_of : {A B : Type 0} (h : Bool) (r : Refusal) (o p : Option Refusal) (a :
 refused_of true r o p a b e is next = let same : r ≡ e = cc in ap Err (sym same)
 refused_of false r o p a b e is next = next is
 
-refused_before : {A B : Type 0} (ks ls : List Check) (a : A) (b : B) (e : Refusal) → unless (first ks) a ≡ Err e → Err e ≡ unless (first (ks ++ ls)) b
+pub refused_before : {A B : Type 0} (ks ls : List Check) (a : A) (b : B) (e : Refusal) → unless (first ks) a ≡ Err e → Err e ≡ unless (first (ks ++ ls)) b
 refused_before [] ls a b e is = let zero_one : ◌≡◌ {A = ℕ} 0 1 = cc in absurd (omega arith)
 refused_before (k ∷ ks) ls a b e is = refused_of k.holds k.says (first ks) (first (ks ++ ls)) a b e is (refused_before ks ls a b e)
 
@@ -79,10 +95,9 @@ falls : (b : Bool) (r : Refusal) (o : Option Refusal) (u : ℕ) → (b ≡ true 
 falls true r o u none rest = sym (none refl)
 falls false r o u none rest = rest
 
-clear : (a b : Bool) → T a → T b → (not a || not b) ≡ true → ⊥
-clear false b x y is = absurd x
-clear true false x y is = absurd y
-clear true true x y is = let zero_one : ◌≡◌ {A = ℕ} 0 1 = cc in omega arith
+clear : (b : Bool) → T b → not b ≡ true → ⊥
+clear false x is = absurd x
+clear true x is = let zero_one : ◌≡◌ {A = ℕ} 0 1 = cc in omega arith
 
 none_priced : (o : Option ℕ) (k : ℕ) → is_none o ≡ true → unwrap_or o 0 * k ≡ 0
 none_priced None k is = omega arith
@@ -136,16 +151,20 @@ module _ (m : Meaning) (law : Lawful m) (kind : Kind) (installed date k : ℕ) (
       let rate : Bool = earlier installed date && is_none (m.coefficient installed date) in
       let no_price : Bool = is_none (m.price kind installed) in
       let bad : Bool = not (within 1 k 20) in
-      falls (not (is_date installed) || not (is_date date)) NoDate (cond bad (Some RateOutOfRange) (cond no_price (Some NoPrice) (cond rate (Some NoCoefficient) None))) u (λ is. absurd (clear (is_date installed) (is_date date) real today is))
+      let from_rate : Option Refusal = cond bad (Some RateOutOfRange) (cond no_price (Some NoPrice) (cond rate (Some NoCoefficient) None)) in
+      falls (not (is_date installed)) NoDate (cond (not (is_date date)) (Some NoDate) from_rate) u (λ is. absurd (clear (is_date installed) real is))
+      (falls (not (is_date date)) NoDate from_rate u (λ is. absurd (clear (is_date date) today is))
       (falls bad RateOutOfRange (cond no_price (Some NoPrice) (cond rate (Some NoCoefficient) None)) u (λ is. free_price (no_tranches (price_at m kind installed) k few is))
       (falls no_price NoPrice (cond rate (Some NoCoefficient) None) u (λ is. free_price (none_priced (m.price kind installed) k is))
-      (falls rate NoCoefficient None u (λ is. unrated_free (earlier installed date) (m.coefficient installed date) is) refl)))
+      (falls rate NoCoefficient None u (λ is. unrated_free (earlier installed date) (m.coefficient installed date) is) refl))))
 
   pub contribution_taken : result_unwrap_or (unless (first (unit_contribution_checks m kind installed date k)) (unit_contribution m kind installed date k)) 0 ≡ unit_contribution m kind installed date k
   contribution_taken =
       let u : ℕ = unit_contribution m kind installed date k in
       let no_price : Bool = is_none (m.price kind installed) in
       let bad : Bool = not (within 1 k 20) in
-      falls (not (is_date installed) || not (is_date date)) NoDate (cond bad (Some RateOutOfRange) (cond no_price (Some NoPrice) None)) u (λ is. absurd (clear (is_date installed) (is_date date) real today is))
+      let from_rate : Option Refusal = cond bad (Some RateOutOfRange) (cond no_price (Some NoPrice) None) in
+      falls (not (is_date installed)) NoDate (cond (not (is_date date)) (Some NoDate) from_rate) u (λ is. absurd (clear (is_date installed) real is))
+      (falls (not (is_date date)) NoDate from_rate u (λ is. absurd (clear (is_date date) today is))
       (falls bad RateOutOfRange (cond no_price (Some NoPrice) None) u (λ is. free_part (no_tranches (price_at m kind installed) k few is))
-      (falls no_price NoPrice None u (λ is. free_part (none_priced (m.price kind installed) k is)) refl))
+      (falls no_price NoPrice None u (λ is. free_part (none_priced (m.price kind installed) k is)) refl)))

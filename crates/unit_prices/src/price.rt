@@ -5,15 +5,11 @@ ghost use Rattle.unit_prices.specs.Limits.{most_unit_price, most_unit_contributi
 ghost use Rattle.unit_prices.specs.Prices.{price_at, unit_price, unit_contribution};
 ghost use Rattle.unit_prices.specs.Refusals.{unit_price_checks, unit_contribution_checks};
 
-use crate::limits::MOST_TRANCHES;
-use calendar::is_date;
+use checks::numbers::{check_date, check_rate};
 use refusal::Refusal;
 use tariff::kinds::Kind;
 use tariff::quotient::Quotient;
-use tariff::tariff::Tariff;
-
-// Hundredths in a whole.
-const WHOLE: u32 = 100;
+use tariff::tariff::{Tariff, WHOLE};
 
 /// What a dwelling of a kind costs for some tranches, in micro-euros: installed before the date, price × tranches × coefficient,
 /// rounded by the sheet; else price × tranches.
@@ -83,12 +79,9 @@ fn price_of<T: Tariff>(
         let refusal = first (unit_contribution_checks m kind installed date tranches) in
         result ≡ unless refusal (price_at m kind installed * tranches) }
 {
-    if !is_date(installed) || !is_date(date) {
-        return Err(Refusal::NoDate);
-    }
-    if tranches < 1 || tranches > MOST_TRANCHES {
-        return Err(Refusal::RateOutOfRange);
-    }
+    check_date(installed)?;
+    check_date(date)?;
+    check_rate(tranches)?;
     let Some(price) = sheet.price(kind, installed) else {
         return Err(Refusal::NoPrice);
     };

@@ -1,11 +1,9 @@
-use Rattle.std.proofs.Common.{◌≡◌, ◌*◌, ◌≤◌, sym, ◌∙◌, arith}
+use Rattle.std.proofs.Common.{◌≡◌, ◌*◌, ◌≤◌, [], sym, ◌∙◌, arith}
 use Rattle.std.proofs.lemmas.Result.{err_from_is_err_and}
-use Rattle.refusal.specs.Checks.{first}
-use Rattle.refusal.proofs.First.{still_refused}
 use Rattle.unit_prices.specs.Prices.{price_at, unit_contribution}
 use Rattle.unit_prices.specs.Refusals.{unit_contribution_checks}
 use Rattle.unit_prices.proofs.Bounds.{part_fits, part_most}
-use Rattle.unit_prices.proofs.Checked.{price_fits}
+use Rattle.unit_prices.proofs.Checked.{plain_fits, refused_before}
 use Rattle.unit_prices.proofs.price.unit_contribution.Goals as goal
 use Rattle.unit_prices.proofs.price.unit_contribution.Goals.{In_ok-price}
 use Rattle.unit_prices.proofs.price.unit_contribution.Given as given
@@ -13,7 +11,7 @@ use Rattle.unit_prices.proofs.price.unit_contribution.Given as given
 fits : (g : given.Over) (c : In_ok-price g) → c.in_ok-price.price ≤ 10000000000
 fits g c =
     let a = c.args in
-    price_fits (g.T.Tariff.meaning a.sheet.now) (g.T.Tariff.lawful a.sheet.now) a.kind a.installed a.date a.tranches _
+    plain_fits (g.T.Tariff.meaning a.sheet.now) (g.T.Tariff.lawful a.sheet.now) a.kind a.installed a.date a.tranches _
     (sym c.price_of.ensures.answer ∙ c.in_ok-price.was)
 
 pub returns-in_err-price-clause-answer : goal.returns-in_err-price-clause-answer
@@ -22,7 +20,7 @@ returns-in_err-price-clause-answer g c =
     let a = c.args in
     let p = err_from_is_err_and c.from_residual.result c.from_residual.ensures.1 in
     let checks = unit_contribution_checks m a.kind a.installed a.date a.tranches in
-    rw (p.1, p.2) (still_refused (first checks) (price_at m a.kind a.installed * a.tranches) (unit_contribution m a.kind a.installed a.date a.tranches) _ (sym c.price_of.ensures.answer ∙ c.in_err-price.was))
+    rw (p.1, p.2) (refused_before checks [] (price_at m a.kind a.installed * a.tranches) (unit_contribution m a.kind a.installed a.date a.tranches) _ (sym c.price_of.ensures.answer ∙ c.in_err-price.was))
 
 pub overflow_mul-price : goal.overflow_mul-price
 overflow_mul-price g c =

@@ -2,7 +2,7 @@ use Rattle.std.proofs.Common.{◌≡◌, ◌*◌, ◌≤◌, sym, ◌∙◌, ari
 use Rattle.std.proofs.lemmas.Result.{err_from_is_err_and}
 use Rattle.tariff.specs.Meaning.{CoefficientLimits}
 use Rattle.unit_prices.proofs.Bounds.{numerator_fits, rated_most}
-use Rattle.unit_prices.proofs.Checked.{price_fits, found_limits, price_refused}
+use Rattle.unit_prices.proofs.Checked.{plain_fits, found_limits, price_refused}
 use Rattle.unit_prices.proofs.price.unit_price.Goals as goal
 use Rattle.unit_prices.proofs.price.unit_price.Goals.{In_ok-plain, In-Some}
 use Rattle.unit_prices.proofs.price.unit_price.Given as given
@@ -10,7 +10,7 @@ use Rattle.unit_prices.proofs.price.unit_price.Given as given
 fits : (g : given.Over) (c : In_ok-plain g) → c.in_ok-plain.plain ≤ 10000000000
 fits g c =
     let a = c.args in
-    price_fits (g.T.Tariff.meaning a.sheet.now) (g.T.Tariff.lawful a.sheet.now) a.kind a.installed a.date a.tranches _
+    plain_fits (g.T.Tariff.meaning a.sheet.now) (g.T.Tariff.lawful a.sheet.now) a.kind a.installed a.date a.tranches _
     (sym c.price_of.ensures.answer ∙ c.in_ok-plain.was)
 
 limits : (g : given.Over) (c : In-Some g) → CoefficientLimits c.in-Some.coefficient
