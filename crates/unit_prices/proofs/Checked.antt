@@ -4,7 +4,7 @@ use Rattle.std.specs.Option.{unwrap_or}
 use Rattle.std.specs.Result.{result_unwrap_or}
 use Rattle.std.proofs.Common.{◌≡◌, ℕ, ◌*◌, ◌<◌, ◌≤◌, Bool, true, false, cond, not, ◌&&◌, leb, T, List, [], ◌∷◌, ◌++◌, Some, None, Ok, Err, Option, is_none, sym, refl, ap, subst, ⊎_elim, mul-le-mul, mul-le-mul_left, lt_of_mul-lt-mul_right, arith}
 use Rattle.std.proofs.lemmas.Bool.{not-false, not-true, and_parts, and_cases, leb-true, leb-false}
-use Rattle.refusal.specs.Checks.{Check, ◌⇒◌, first, unless, passing}
+use Rattle.refusal.specs.Checks.{Check, ◌⇒◌, first, unless}
 use Rattle.refusal.specs.declared.Refusal.{Refusal}
 use Rattle.refusal.specs.declared.Refusal.TheVariants.{NoDate, RateOutOfRange, NoPrice, NoCoefficient}
 use Rattle.calendar.specs.Days.{is_date, within}
@@ -14,21 +14,6 @@ use Rattle.tariff.specs.declared.kinds.Coefficient.{Coefficient}
 use Rattle.unit_prices.specs.Prices.{price_at, coefficient_at, earlier, unit_price, unit_contribution}
 use Rattle.unit_prices.specs.Refusals.{unit_price_checks, unit_contribution_checks}
 use Rattle.unit_prices.proofs.Bounds.{price_most, coefficient_limits}
-
--- a check alone, and the checks that it begins
-stopped_by : {A : Type 0} (b : Bool) (r : Refusal) (o : Option Refusal) (a : A) (e : Refusal) → unless (cond b (Some r) None) (tt {0}) ≡ Err e → Err e ≡ unless (cond b (Some r) o) a
-stopped_by true r o a e is = let same : r ≡ e = cc in ap Err (sym same)
-stopped_by false r o a e is = let zero_one : ◌≡◌ {A = ℕ} 0 1 = cc in absurd (omega arith)
-
-pub stopped : {A : Type 0} (k : Check) (ks : List Check) (a : A) (e : Refusal) → passing (k ∷ []) ≡ Err e → Err e ≡ unless (first (k ∷ ks)) a
-stopped k ks a e is = stopped_by k.holds k.says (first ks) a e is
-
-went_on_by : {A : Type 0} (b : Bool) (r : Refusal) (o : Option Refusal) (a : A) (u : Unit {0}) → unless (cond b (Some r) None) (tt {0}) ≡ Ok u → unless o a ≡ unless (cond b (Some r) o) a
-went_on_by true r o a u is = let zero_one : ◌≡◌ {A = ℕ} 0 1 = cc in absurd (omega arith)
-went_on_by false r o a u is = refl
-
-pub went_on : {A : Type 0} (k : Check) (ks : List Check) (a : A) (u : Unit {0}) → passing (k ∷ []) ≡ Ok u → unless (first ks) a ≡ unless (first (k ∷ ks)) a
-went_on k ks a u is = went_on_by k.holds k.says (first ks) a u is
 
 -- checks that pass pass one by one
 first_passed : {A : Type 0} (b : Bool) (r : Refusal) (o : Option Refusal) (a x : A) → unless (cond b (Some r) o) a ≡ Ok x → (b ≡ false) × (unless o a ≡ Ok x)
