@@ -6,7 +6,7 @@ use Rattle.run.proofs.ledger.Ledger.raise.Goals as goal
 
 pub share_out-requires : goal.share_out-requires
 share_out-requires g c = record {
-  figures = c.args.zone.figures;
+  figures = c.args.zone.core.figures;
   launch_date = c.args.zone.launch_date;
   event = raise_event c.args.date c.args.operator c.args.rate;
   places = _;
