@@ -189,9 +189,10 @@ def number(word):
 
 def amount(word):
     whole, point, decimals = word[:-7], word[-7:-6], word[-6:]
-    good = 1 <= len(whole) <= 9 and point == "." and (whole + decimals).isascii() and (whole + decimals).isdigit()
-    if not good or int(whole + decimals) >= 2**32:
+    if not (whole and point == "." and (whole + decimals).isascii() and (whole + decimals).isdigit()):
         raise Unreadable("a price is not euros with a point and six decimals")
+    if len(whole) > 9 or int(whole + decimals) >= 2**32:
+        raise Unreadable("a price is above 4294.967295 euros, or has more than nine digits before its point")
     return int(whole + decimals)
 
 

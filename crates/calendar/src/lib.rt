@@ -4,15 +4,19 @@
 ghost use Rattle.std.specs.Prelude.{◌≡◌, ◌≤◌, T};
 ghost use Rattle.calendar.specs.Days.{is_date, month_length, months_between, index_of};
 
-// Whether a number is a real calendar day from 20080101 to 20991231.
+const FIRST_YEAR: u32 = 2008;
+
+const LAST_YEAR: u32 = 2099;
+
+/// Whether a number, written yyyymmdd, is a real calendar day from 20080101 to 20991231.
 pub const fn is_date(number: u32) -> bool
     ensures value { result ≡ is_date number }
 {
     let year = number / 10000;
     let month = number / 100 % 100;
     let day = number % 100;
-    2008 <= year
-        && year <= 2099
+    FIRST_YEAR <= year
+        && year <= LAST_YEAR
         && 1 <= month
         && month <= 12
         && 1 <= day
@@ -31,7 +35,8 @@ const fn month_length(year: u32, month: u32) -> u32
     }
 }
 
-// The months from one date to another: the difference of years and months, days playing no part, 0 if negative.
+/// The months from one date to another: the difference of years and months, days playing no part, 0 if negative.
+/// Both dates are written yyyymmdd; neither need be real.
 pub const fn months_between(from: u32, to: u32) -> u32
     ensures value { result ≡ months_between from to }
     ensures earlier { T (is_date from) → T (is_date to) → to ≤ from → result ≡ 0 }
@@ -41,7 +46,8 @@ pub const fn months_between(from: u32, to: u32) -> u32
     last.saturating_sub(first)
 }
 
-// The year index of a date in a zone launched on a day.
+/// The year of a zone's life that a date lies in: 0 up to and including the launch date, then calendar years, the rest of
+/// the launch year being 1. Both dates are written yyyymmdd; neither need be real.
 pub const fn year_index(launch: u32, date: u32) -> u32
     ensures value { result ≡ index_of launch date }
 {

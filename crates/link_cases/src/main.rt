@@ -5,5 +5,5 @@
 use std::io;
 
 fn main(rt: HostRuntime) -> io::Result<()> {
-    quoting::run::run(&rt)
+    quote_desk::service::serve_input(&rt)
 }

@@ -1,4 +1,4 @@
 pub mod TableLimits
-pub mod PlaceLimits
+pub mod CellLimits
 pub mod Placing
 pub mod Rows

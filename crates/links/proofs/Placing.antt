@@ -7,10 +7,10 @@ use Rattle.refusal.proofs.First.{held, passed, first_here, first_next}
 use Rattle.calendar.specs.Days.{within}
 use Rattle.tariff.specs.Meaning.{Meaning, Lawful}
 use Rattle.links.specs.Tables.{row_of, metres_check, fibres_check, row_checked, column_checked}
-use Rattle.links.specs.Quotations.{dates_real, date_check, coefficient_check, dates_checked, basis_checked, place_of, placed, PlaceLimits}
+use Rattle.links.specs.Quotations.{dates_real, date_check, coefficient_check, dates_checked, basis_checked, cell_of, placed, CellLimits}
 use Rattle.links.specs.declared.order.Order.{Order}
-use Rattle.links.specs.declared.order.Basis.{Basis}
-use Rattle.links.proofs.PlaceLimits as limits
+use Rattle.links.specs.declared.quotation.Basis.{Basis}
+use Rattle.links.proofs.CellLimits as limits
 
 module _ (m : Meaning) (o : Order) where
   -- the checks from each one on
@@ -24,43 +24,43 @@ module _ (m : Meaning) (o : Order) where
   from_basis = coefficient_check m o ∷ from_row
 
   module _ (u : Unit {0}) (real : dates_checked o ≡ Ok u) where
-    past_dates : unless (first from_basis) (place_of m o) ≡ placed m o
-    past_dates = first_next (date_check o) from_basis (place_of m o) (passed (date_check o) tt u real).0
+    past_dates : unless (first from_basis) (cell_of m o) ≡ placed m o
+    past_dates = first_next (date_check o) from_basis (cell_of m o) (passed (date_check o) tt u real).0
 
     module _ (b : Basis) (based : basis_checked m o ≡ Ok b) where
-      past_basis : unless (first from_row) (place_of m o) ≡ placed m o
-      past_basis = first_next (coefficient_check m o) from_row (place_of m o) (passed (coefficient_check m o) _ b based).0 ∙ past_dates
+      past_basis : unless (first from_row) (cell_of m o) ≡ placed m o
+      past_basis = first_next (coefficient_check m o) from_row (cell_of m o) (passed (coefficient_check m o) _ b based).0 ∙ past_dates
 
       module _ (row : ℕ) (in_row : row_checked o.metres ≡ Ok row) where
-        past_row : unless (first from_column) (place_of m o) ≡ placed m o
-        past_row = first_next (metres_check o.metres) from_column (place_of m o) (passed (metres_check o.metres) _ row in_row).0 ∙ past_basis
+        past_row : unless (first from_column) (cell_of m o) ≡ placed m o
+        past_row = first_next (metres_check o.metres) from_column (cell_of m o) (passed (metres_check o.metres) _ row in_row).0 ∙ past_basis
 
         module _ (column : ℕ) (in_column : column_checked o.fibres ≡ Ok column) where
           -- what the four checks let through
-          let_through : place_of m o ≡ record { basis = b; row = row; column = column }
+          let_through : cell_of m o ≡ record { basis = b; row = row; column = column }
           let_through =
               let is_basis = (passed (coefficient_check m o) _ b based).1 in
               let is_row = (passed (metres_check o.metres) _ row in_row).1 in
               let is_column = (passed (fibres_check o.fibres) _ column in_column).1 in
               (λ i. record { basis = is_basis i; row = is_row i; column = is_column i })
 
-          pub found_place : Ok (record { basis = b; row = row; column = column }) ≡ placed m o
-          found_place =
+          pub found_cell : Ok (record { basis = b; row = row; column = column }) ≡ placed m o
+          found_cell =
               ap Ok (sym let_through)
-              ∙ first_next (fibres_check o.fibres) [] (place_of m o) (passed (fibres_check o.fibres) _ column in_column).0
+              ∙ first_next (fibres_check o.fibres) [] (cell_of m o) (passed (fibres_check o.fibres) _ column in_column).0
               ∙ past_row
 
-          pub found_limits : Lawful m → PlaceLimits (record { basis = b; row = row; column = column })
+          pub found_limits : Lawful m → CellLimits (record { basis = b; row = row; column = column })
           found_limits law =
-              let inside : PlaceLimits (place_of m o) = record {
+              let inside : CellLimits (cell_of m o) = record {
                 basis_limits = limits.basis_limits m law o (not-false (dates_real o) (passed (date_check o) tt u real).0);
                 row_limit = limits.row_limit o.metres (not-false (within 1 o.metres 16000) (passed (metres_check o.metres) (row_of o.metres) row in_row).0);
                 column_limit = limits.column_limit o.fibres (not-false (within 1 o.fibres 6) (passed (fibres_check o.fibres) (o.fibres - 1) column in_column).0);
               } in
-              subst PlaceLimits let_through inside
+              subst CellLimits let_through inside
 
     pub by_basis : (e : Refusal) → basis_checked m o ≡ Err e → Err e ≡ placed m o
-    by_basis e is = first_here (coefficient_check m o) from_row (place_of m o) e (held (coefficient_check m o) _ e is) ∙ past_dates
+    by_basis e is = first_here (coefficient_check m o) from_row (cell_of m o) e (held (coefficient_check m o) _ e is) ∙ past_dates
 
   pub by_dates : (e : Refusal) → dates_checked o ≡ Err e → Err e ≡ placed m o
-  by_dates e is = first_here (date_check o) from_basis (place_of m o) e (held (date_check o) tt e is)
+  by_dates e is = first_here (date_check o) from_basis (cell_of m o) e (held (date_check o) tt e is)

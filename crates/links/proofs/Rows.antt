@@ -8,7 +8,7 @@ use Rattle.calendar.specs.Days.{within}
 use Rattle.refusal.specs.Checks.{unless}
 use Rattle.refusal.specs.declared.Refusal.TheVariants.{MetresOutOfRange}
 use Rattle.links.specs.Tables.{row_ends, ends_passed, row_of, row_checked}
-use Rattle.links.proofs.PlaceLimits.{row_limit}
+use Rattle.links.proofs.CellLimits.{row_limit}
 
 turned : (b : Bool) (x y : ℕ) → cond (not b) x y ≡ cond b y x
 turned true x y = refl

@@ -3,6 +3,7 @@ use Rattle.std.proofs.Common.{◌≡◌, ℕ, zero, suc, ◌≤◌, Bool, true, 
 use Rattle.std.proofs.lemmas.Bool.{and_parts}
 use Rattle.tariff.specs.Most.{all_at_most, at_most}
 use Rattle.links.specs.Tables.{reference, price_at}
+use Rattle.links.specs.Quotations.{most_reference}
 
 abbrev rows_at_most : ℕ → List (List ℕ) → Bool
 rows_at_most most [] = true
@@ -13,6 +14,6 @@ row_at_most most [] all row column = omega arith
 row_at_most most (r ∷ rs) all zero column = at_most most r (and_parts (all_at_most most r) _ all).0 column
 row_at_most most (r ∷ rs) all (suc row) column = row_at_most most rs (and_parts (all_at_most most r) _ all).1 row column
 
-pub reference_most : (row column : ℕ) → price_at reference row column ≤ 16572000000
+pub reference_most : (row column : ℕ) → price_at reference row column ≤ most_reference
 unfolding reference
 reference_most row column = mul-le-mul_right 1000000 (row_at_most 16572 reference refl row column)

@@ -10,26 +10,30 @@ use Rattle.refusal.specs.declared.Refusal.{Refusal}
 use Rattle.refusal.specs.declared.Refusal.TheVariants.{NoDate, NoCoefficient}
 use Rattle.calendar.specs.Days.{is_date}
 use Rattle.tariff.specs.Meaning.{Meaning, CoefficientLimits}
-use Rattle.links.specs.Tables.{row_of, initial, reference, extra, price_at, metres_check, fibres_check}
+use Rattle.links.specs.Tables.{rows, most_fibres, row_of, initial, reference, extra, price_at, metres_check, fibres_check}
 use Rattle.links.specs.declared.order.Order.{Order}
-use Rattle.links.specs.declared.order.Basis.{Basis}
-use Rattle.links.specs.declared.order.Basis.TheVariants.{AbInitio, ExPost}
-use Rattle.links.specs.declared.order.Quotation.{Quotation}
-use Rattle.links.specs.declared.order.Place.{Place}
+use Rattle.links.specs.declared.quotation.Basis.{Basis}
+use Rattle.links.specs.declared.quotation.Basis.TheVariants.{AbInitio, ExPost}
+use Rattle.links.specs.declared.quotation.Quotation.{Quotation}
+use Rattle.links.specs.declared.quotation.Cell.{Cell}
 
 -- A date that may not be known.
 abbrev pub real_if_known : Option ℕ → Bool
 real_if_known None = true
 real_if_known (Some date) = is_date date
 
+-- The order date, and the service date where it is known, are real.
 abbrev pub dates_real : Order → Bool
 dates_real o = is_date o.ordered && real_if_known o.service
 
 -- A link is ab initio unless the PM's service date is known and before the order.
 abbrev pub basis_on : Meaning → Option ℕ → ℕ → Option Basis
 basis_on m None ordered = Some AbInitio
-basis_on m (Some service) ordered = cond (nat_lt service ordered) (option_map ExPost (m.coefficient service ordered)) (Some AbInitio)
+basis_on m (Some service) ordered =
+    cond (nat_lt service ordered)
+    (option_map ExPost (m.coefficient service ordered)) (Some AbInitio)
 
+-- The basis of an order.
 abbrev pub basis_of : Meaning → Order → Option Basis
 basis_of m o = basis_on m o.service o.ordered
 
@@ -39,8 +43,10 @@ date_check o = not (dates_real o) ⇒ NoDate
 abbrev pub coefficient_check : Meaning → Order → Check
 coefficient_check m o = not (is_some (basis_of m o)) ⇒ NoCoefficient
 
+-- All checks of an order, in their order.
 abbrev pub checks : Meaning → Order → List Check
-checks m o = date_check o ∷ coefficient_check m o ∷ metres_check o.metres ∷ fibres_check o.fibres ∷ []
+checks m o =
+    date_check o ∷ coefficient_check m o ∷ metres_check o.metres ∷ fibres_check o.fibres ∷ []
 
 -- Each check alone, with what it lets through.
 abbrev pub dates_checked : Order → Result (Unit {0}) Refusal
@@ -54,38 +60,55 @@ abbrev pub BasisLimits : Basis → Type 0
 BasisLimits AbInitio = Unit {0}
 BasisLimits (ExPost c) = CoefficientLimits c
 
--- What an order that no check refuses is priced by: its basis, and its place in the tables.
-abbrev pub place_of : Meaning → Order → Place
-place_of m o = record { basis = unwrap_or (basis_of m o) AbInitio; row = row_of o.metres; column = o.fibres - 1 }
+-- What an order that no check refuses is priced by: its basis, and its row and column in the tables.
+abbrev pub cell_of : Meaning → Order → Cell
+cell_of m o = record {
+  basis = unwrap_or (basis_of m o) AbInitio;
+  row = row_of o.metres;
+  column = o.fibres - 1;
+}
 
-abbrev pub placed : Meaning → Order → Result Place Refusal
-placed m o = unless (first (checks m o)) (place_of m o)
+-- The cell of an order, or the first check that refuses it.
+abbrev pub placed : Meaning → Order → Result Cell Refusal
+placed m o = unless (first (checks m o)) (cell_of m o)
 
-pub record PlaceLimits (p : Place) : Type 0 where
+-- A basis within the tariff's limits, a row and a column that the tables have.
+pub record CellLimits (p : Cell) : Type 0 where
   pub basis_limits : BasisLimits p.basis
-  pub row_limit : p.row < 9
-  pub column_limit : p.column < 6
+  pub row_limit : p.row < rows
+  pub column_limit : p.column < most_fibres
 
 -- Ab initio the first price; ex post the second, times the coefficient, rounded by the sheet.
 abbrev pub price_on : Meaning → Basis → ℕ → ℕ → ℕ
 price_on m AbInitio first_price reference_price = first_price
-price_on m (ExPost c) first_price reference_price = m.rounded (reference_price * c.numerator) c.denominator
+price_on m (ExPost c) first_price reference_price =
+    m.rounded (reference_price * c.numerator) c.denominator
 
--- The price of a place, by the prices that two tables have there.
-abbrev pub quoted : Meaning → Place → ℕ → ℕ → Quotation
-quoted m p first_price reference_price = record { basis = p.basis; price = price_on m p.basis first_price reference_price }
+-- The price of a cell, by the prices that two tables have there.
+abbrev pub quoted : Meaning → Cell → ℕ → ℕ → Quotation
+quoted m p first_price reference_price = record {
+  basis = p.basis;
+  price = price_on m p.basis first_price reference_price;
+}
 
-abbrev pub link_at : Meaning → Place → Quotation
+-- No reference price passes 16,572 euros.
+abbrev pub most_reference : ℕ
+most_reference = 16572000000
+
+-- The price of a link in a cell.
+abbrev pub link_at : Meaning → Cell → Quotation
 link_at m p = quoted m p (price_at initial p.row p.column) (price_at reference p.row p.column)
 
--- Five and more first-ordered fibres share a column.
-abbrev pub fibre_at : Meaning → Place → Quotation
+-- The price of an extra fibre in a cell. Five and more first-ordered fibres share a column.
+abbrev pub fibre_at : Meaning → Cell → Quotation
 fibre_at m p =
     let price = price_at extra p.row (min p.column 4) in
     quoted m p price price
 
+-- The answer for a link.
 abbrev pub link_quotation : Meaning → Order → Result Quotation Refusal
-link_quotation m o = unless (first (checks m o)) (link_at m (place_of m o))
+link_quotation m o = unless (first (checks m o)) (link_at m (cell_of m o))
 
+-- The answer for an extra fibre on one.
 abbrev pub fibre_quotation : Meaning → Order → Result Quotation Refusal
-fibre_quotation m o = unless (first (checks m o)) (fibre_at m (place_of m o))
+fibre_quotation m o = unless (first (checks m o)) (fibre_at m (cell_of m o))

@@ -10,18 +10,31 @@ use Rattle.refusal.specs.Checks.{Check, ◌⇒◌, first, unless}
 use Rattle.refusal.specs.declared.Refusal.{Refusal}
 use Rattle.refusal.specs.declared.Refusal.TheVariants.{MetresOutOfRange, FibresOutOfRange}
 
+-- The longest link, in metres, and the most fibres on one.
+abbrev pub most_metres : ℕ
+most_metres = 16000
+
+abbrev pub most_fibres : ℕ
+most_fibres = 6
+
+-- How many lengths the tables have a row for.
+abbrev pub rows : ℕ
+rows = 9
+
 -- The length in metres up to which each row goes.
 abbrev pub row_ends : List ℕ
-row_ends = 1000 ∷ 2000 ∷ 4000 ∷ 6000 ∷ 8000 ∷ 10000 ∷ 12000 ∷ 14000 ∷ 16000 ∷ []
+row_ends = 1000 ∷ 2000 ∷ 4000 ∷ 6000 ∷ 8000 ∷ 10000 ∷ 12000 ∷ 14000 ∷ most_metres ∷ []
 
 -- How many of some ends a length passes before the first that it does not.
 abbrev pub ends_passed : List ℕ → ℕ → ℕ
 ends_passed [] metres = 0
 ends_passed (end ∷ ends) metres = cond (nat_le metres end) 0 (1 + ends_passed ends metres)
 
+-- The row of a length, counted from 0.
 abbrev pub row_of : ℕ → ℕ
 row_of metres = ends_passed row_ends metres
 
+-- Ab initio: a row for each length, a column for each of 1 to 6 fibres.
 unfoldable pub initial : List (List ℕ)
 initial =
     (1671 ∷ 3090 ∷ 3921 ∷ 4420 ∷ 4753 ∷ 4986 ∷ []) ∷
@@ -34,6 +47,7 @@ initial =
     (3447 ∷ 6374 ∷ 8090 ∷ 9119 ∷ 9806 ∷ 10286 ∷ []) ∷
     (3737 ∷ 6911 ∷ 8771 ∷ 9887 ∷ 10631 ∷ 11151 ∷ []) ∷ []
 
+-- The reference prices, by the same rows and columns.
 unfoldable pub reference : List (List ℕ)
 reference =
     (1671 ∷ 3216 ∷ 4523 ∷ 5628 ∷ 6578 ∷ 7409 ∷ []) ∷
@@ -46,6 +60,7 @@ reference =
     (3447 ∷ 6634 ∷ 9331 ∷ 11611 ∷ 13572 ∷ 15286 ∷ []) ∷
     (3737 ∷ 7192 ∷ 10116 ∷ 12588 ∷ 14714 ∷ 16572 ∷ []) ∷ []
 
+-- An extra fibre: a column for each of 1 to 4 fibres first ordered, and one for five and more.
 unfoldable pub extra : List (List ℕ)
 extra =
     (1545 ∷ 1307 ∷ 1105 ∷ 951 ∷ 831 ∷ []) ∷
@@ -64,14 +79,16 @@ price_at table row column = slice_index (slice_index_or table row []) column * 1
 
 -- A length of 1 to 16,000 metres has a row.
 abbrev pub metres_check : ℕ → Check
-metres_check metres = not (within 1 metres 16000) ⇒ MetresOutOfRange
+metres_check metres = not (within 1 metres most_metres) ⇒ MetresOutOfRange
 
 -- A link has 1 to 6 fibres.
 abbrev pub fibres_check : ℕ → Check
-fibres_check fibres = not (within 1 fibres 6) ⇒ FibresOutOfRange
+fibres_check fibres = not (within 1 fibres most_fibres) ⇒ FibresOutOfRange
 
+-- The row of a length, or its refusal.
 abbrev pub row_checked : ℕ → Result ℕ Refusal
 row_checked metres = unless (first (metres_check metres ∷ [])) (row_of metres)
 
+-- The column of a number of fibres, or its refusal.
 abbrev pub column_checked : ℕ → Result ℕ Refusal
 column_checked fibres = unless (first (fibres_check fibres ∷ [])) (fibres - 1)

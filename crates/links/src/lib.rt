@@ -3,5 +3,5 @@
 
 pub mod order;
 pub mod price;
+pub mod quotation;
 mod tables;
-pub mod text;

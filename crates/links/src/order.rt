@@ -1,8 +1,13 @@
-// What is ordered, and what it costs.
-use tariff::kinds::Coefficient;
+// What is ordered, and its text.
+ghost use Rattle.std.specs.Prelude.{Some};
+ghost use Rattle.links.specs.Texts.{order_text};
 
-// An order for a link, or for an extra fibre on one. Lengths are in metres; for an extra fibre, the fibres are those first ordered.
-#[derive(Clone, Copy)]
+use std::fmt;
+
+/// An order for a link, or for an extra fibre on one. Dates are written yyyymmdd; the service date is the PM's, where it is
+/// known. Lengths are in metres; for an extra fibre, the fibres are those first ordered. Nothing is checked before it is
+/// priced.
+#[derive(Clone, Copy, PartialEq, Eq, Debug)]
 pub struct Order {
     pub ordered: u32,
     pub service: Option<u32>,
@@ -10,25 +15,22 @@ pub struct Order {
     pub fibres: u32,
 }
 
-// Whether the network was built for the order, or the PM was in service before it: the shape of an
-// Option<Coefficient>, whose None would not say what its absence means, nor have a text of its own.
-#[derive(Clone, Copy)]
-pub enum Basis {
-    AbInitio,
-    ExPost(Coefficient),
-}
+impl fmt::Display for Order {
+    ghost output = { λ order. Some (order_text order) };
 
-// What an order is priced by: its basis, and its row and column in the tables, both counted from 0.
-#[derive(Clone, Copy)]
-pub(crate) struct Place {
-    pub(crate) basis: Basis,
-    pub(crate) row: usize,
-    pub(crate) column: usize,
-}
-
-// A price in micro-euros, and how it came about.
-#[derive(Clone, Copy)]
-pub struct Quotation {
-    pub basis: Basis,
-    pub price: u64,
+    fn fmt<W: fmt::Write>(&self, f: &mut fmt::Formatter<W>) -> fmt::Result {
+        let ordered = self.ordered;
+        let metres = self.metres;
+        let fibres = self.fibres;
+        match self.service {
+            Some(service) => write!(
+                f,
+                "ORDERED {ordered} METRES {metres} FIBRES {fibres} SERVICE {service}"
+            ),
+            None => write!(
+                f,
+                "ORDERED {ordered} METRES {metres} FIBRES {fibres} SERVICE UNKNOWN"
+            ),
+        }
+    }
 }

@@ -1,40 +1,42 @@
 // The price of an order over any tariff.
 ghost use Rattle.std.specs.Prelude.{◌≡◌, ◌≤◌, IfOk};
-ghost use Rattle.links.specs.Quotations.{dates_checked, basis_checked, placed, PlaceLimits, BasisLimits, price_on, link_at, fibre_at, link_quotation, fibre_quotation};
+ghost use Rattle.links.specs.Quotations.{dates_checked, basis_checked, placed, CellLimits, BasisLimits, price_on, most_reference, link_at, fibre_at, link_quotation, fibre_quotation};
 
-use crate::order::{Basis, Order, Place, Quotation};
+use crate::order::Order;
+use crate::quotation::{Basis, Cell, Quotation};
 use crate::tables::{EXTRA, INITIAL, REFERENCE, column_of, price_at, row_of};
 use calendar::is_date;
 use refusal::Refusal;
 use tariff::quotient::Quotient;
 use tariff::tariff::Tariff;
 
-// The price of a link, or why there is none.
+/// The price of a link, or the first check that refuses it: `NoDate` where a date is not real, `NoCoefficient` where it is
+/// ex post and the sheet has none, `MetresOutOfRange` and `FibresOutOfRange` outside the tables.
 pub fn link_price<T: Tariff>(sheet: &T, order: &Order) -> Result<Quotation, Refusal>
     ensures answer { result ≡ link_quotation (T.meaning sheet.now) order.now }
 {
-    let place = place_of(sheet, order)?;
-    Ok(link_at(sheet, place))
+    let cell = cell_of(sheet, order)?;
+    Ok(link_at(sheet, cell))
 }
 
-// The price of an extra fibre on a link, or why there is none.
+/// The price of an extra fibre on a link, refused as a link is.
 pub fn fibre_price<T: Tariff>(sheet: &T, order: &Order) -> Result<Quotation, Refusal>
     ensures answer { result ≡ fibre_quotation (T.meaning sheet.now) order.now }
 {
-    let place = place_of(sheet, order)?;
-    Ok(fibre_at(sheet, place))
+    let cell = cell_of(sheet, order)?;
+    Ok(fibre_at(sheet, cell))
 }
 
 // All checks of an order, and what it is priced by.
-fn place_of<T: Tariff>(sheet: &T, order: &Order) -> Result<Place, Refusal>
+fn cell_of<T: Tariff>(sheet: &T, order: &Order) -> Result<Cell, Refusal>
     ensures answer { result ≡ placed (T.meaning sheet.now) order.now }
-    ensures limits { IfOk result PlaceLimits }
+    ensures limits { IfOk result CellLimits }
 {
     check_dates(order)?;
     let basis = basis_of(sheet, order)?;
     let row = row_of(order.metres)?;
     let column = column_of(order.fibres)?;
-    Ok(Place { basis, row, column })
+    Ok(Cell { basis, row, column })
 }
 
 // Whether the order date, and the service date where it is known, are real.
@@ -60,11 +62,11 @@ fn basis_of<T: Tariff>(sheet: &T, order: &Order) -> Result<Basis, Refusal>
     }
 }
 
-fn link_at<T: Tariff>(sheet: &T, place: Place) -> Quotation
-    requires { PlaceLimits place }
-    ensures value { result ≡ link_at (T.meaning sheet.now) place }
+fn link_at<T: Tariff>(sheet: &T, cell: Cell) -> Quotation
+    requires { CellLimits cell }
+    ensures value { result ≡ link_at (T.meaning sheet.now) cell }
 {
-    let Place { basis, row, column } = place;
+    let Cell { basis, row, column } = cell;
     let price = price_on(
         sheet,
         basis,
@@ -74,11 +76,11 @@ fn link_at<T: Tariff>(sheet: &T, place: Place) -> Quotation
     Quotation { basis, price }
 }
 
-fn fibre_at<T: Tariff>(sheet: &T, place: Place) -> Quotation
-    requires { PlaceLimits place }
-    ensures value { result ≡ fibre_at (T.meaning sheet.now) place }
+fn fibre_at<T: Tariff>(sheet: &T, cell: Cell) -> Quotation
+    requires { CellLimits cell }
+    ensures value { result ≡ fibre_at (T.meaning sheet.now) cell }
 {
-    let Place { basis, row, column } = place;
+    let Cell { basis, row, column } = cell;
     let extra = price_at(&EXTRA, row, column.min(4));
     let price = price_on(sheet, basis, extra, extra);
     Quotation { basis, price }
@@ -87,7 +89,7 @@ fn fibre_at<T: Tariff>(sheet: &T, place: Place) -> Quotation
 // Ab initio the first price; ex post the reference price times the coefficient, rounded by the sheet.
 fn price_on<T: Tariff>(sheet: &T, basis: Basis, first: u64, reference: u64) -> u64
     requires limits { BasisLimits basis }
-    requires most { reference ≤ 16572000000 }
+    requires most { reference ≤ most_reference }
     ensures value { result ≡ price_on (T.meaning sheet.now) basis first reference }
 {
     match basis {

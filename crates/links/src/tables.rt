@@ -1,19 +1,25 @@
 // The price tables of links, by the link's length and its fibres.
 ghost use Rattle.std.specs.Prelude.{◌≡◌, ◌<◌};
-ghost use Rattle.links.specs.Tables.{row_checked, column_checked, price_at};
+ghost use Rattle.links.specs.Tables.{rows, row_checked, column_checked, price_at};
 
 use refusal::Refusal;
 
 // Micro-euros in a euro.
 const EURO: u64 = 1_000_000;
 
+// How many lengths the tables have a row for.
+const ROWS: usize = 9;
+
+// The most fibres on a link, and a column for each number of them.
+const MOST_FIBRES: usize = 6;
+
 // The length in metres up to which each row goes.
-const ROW_ENDS: [u32; 9] = [
+const ROW_ENDS: [u32; ROWS] = [
     1_000, 2_000, 4_000, 6_000, 8_000, 10_000, 12_000, 14_000, 16_000,
 ];
 
 // A link ordered ab initio, in euros: a row for each length, a column for each of 1 to 6 fibres.
-pub(crate) const INITIAL: [[u32; 6]; 9] = [
+pub(crate) const INITIAL: [[u32; MOST_FIBRES]; ROWS] = [
     [1671, 3090, 3921, 4420, 4753, 4986],
     [1780, 3291, 4176, 4708, 5062, 5310],
     [1997, 3693, 4687, 5283, 5681, 5959],
@@ -26,7 +32,7 @@ pub(crate) const INITIAL: [[u32; 6]; 9] = [
 ];
 
 // A link's reference price, which the ex post coefficient multiplies.
-pub(crate) const REFERENCE: [[u32; 6]; 9] = [
+pub(crate) const REFERENCE: [[u32; MOST_FIBRES]; ROWS] = [
     [1671, 3216, 4523, 5628, 6578, 7409],
     [1780, 3425, 4817, 5994, 7006, 7891],
     [1997, 3844, 5406, 6727, 7863, 8856],
@@ -39,7 +45,7 @@ pub(crate) const REFERENCE: [[u32; 6]; 9] = [
 ];
 
 // An extra fibre on a link, by the fibres first ordered: 1, 2, 3, 4, then five and more alike.
-pub(crate) const EXTRA: [[u32; 5]; 9] = [
+pub(crate) const EXTRA: [[u32; 5]; ROWS] = [
     [1545, 1307, 1105, 951, 831],
     [1645, 1392, 1177, 1012, 885],
     [1847, 1562, 1321, 1136, 993],
@@ -66,15 +72,15 @@ pub(crate) fn row_of(metres: u32) -> Result<usize, Refusal>
 pub(crate) const fn column_of(fibres: u32) -> Result<usize, Refusal>
     ensures answer { result ≡ column_checked fibres }
 {
-    match fibres {
-        1..=6 => Ok(fibres as usize - 1),
+    match fibres as usize {
+        number @ 1..=MOST_FIBRES => Ok(number - 1),
         _ => Err(Refusal::FibresOutOfRange),
     }
 }
 
 // What a table has in a row and column, both counted from 0, in micro-euros.
-pub(crate) fn price_at<const N: usize>(table: &[[u32; N]; 9], row: usize, column: usize) -> u64
-    requires { (row < 9) × (column < N) }
+pub(crate) fn price_at<const N: usize>(table: &[[u32; N]; ROWS], row: usize, column: usize) -> u64
+    requires { (row < rows) × (column < N) }
     ensures value { result ≡ price_at table.now row column }
 {
     u64::from(table[row][column]) * EURO

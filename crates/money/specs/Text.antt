@@ -3,6 +3,7 @@
 --   NoLoss      two amounts with one text are one amount
 use Rattle.std.specs.Prelude.{◌≡◌, ℕ, ◌/◌, ◌%◌, ◌^◌, ◌<◌, List, ◌++◌, codes, decimal}
 
+-- Euros, a point, and six decimals digit by digit.
 abbrev pub money_text : ℕ → List ℕ
 money_text n =
     decimal (n / 1000000) ++ (codes "." ++
@@ -11,4 +12,5 @@ money_text n =
 
 -- The text of a 64-bit amount tells it from every other.
 abbrev pub NoLoss : Type 0
-NoLoss = (m n : ℕ) → m < 2 ^ 64 → n < 2 ^ 64 → money_text m ≡ money_text n → m ≡ n
+NoLoss =
+    (m n : ℕ) → m < 2 ^ 64 → n < 2 ^ 64 → money_text m ≡ money_text n → m ≡ n

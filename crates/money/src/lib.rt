@@ -8,20 +8,21 @@ pub mod signed;
 
 use std::fmt;
 
-// An amount in micro-euros, the sixth decimal of a euro.
+/// An amount in whole micro-euros, the sixth decimal of a euro. Its text is euros, a point and six decimals.
 #[derive(Clone, Copy, PartialEq, Eq, Debug)]
 pub struct Money {
     micros: u64,
 }
 
 impl Money {
+    /// The amount of so many micro-euros.
     pub const fn from_micros(micros: u64) -> Money
         ensures value { result.micros ≡ micros }
     {
         Money { micros }
     }
 
-    // The amount in micro-euros. No two amounts have the same text.
+    /// How many micro-euros the amount has. No two amounts have the same text.
     pub const fn micros(self) -> u64
         ensures value { result ≡ self.micros }
         ensures no_loss { NoLoss }

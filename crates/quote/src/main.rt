@@ -2,7 +2,7 @@
 #![tactic(auto)]
 
 fn run(rt: &HostRuntime) -> anyhow::Result<()> {
-    quoting::run::run(rt)?;
+    quote_desk::service::serve_input(rt)?;
     Ok(())
 }
 

@@ -8,7 +8,8 @@ ghost use Rattle.refusal.specs.Sentences.{sentence_of};
 use std::error::Error;
 use std::fmt;
 
-// The fault type of every layer, from the price sheet to the program.
+/// Why something is turned down: the fault type of every layer, from the price sheet to the program. Each case has a
+/// number, which reports and files use, and a sentence, which says when it is given.
 #[derive(Clone, Copy, PartialEq, Eq, Debug)]
 pub enum Refusal {
     BadTables = 1,
@@ -39,14 +40,14 @@ pub enum Refusal {
 }
 
 impl Refusal {
-    // The number that reports and files use.
+    /// The number that reports and files use, 1 to 25.
     pub const fn number(self) -> u8
         ensures number { result ≡ number_of self }
     {
         self as u8
     }
 
-    // What a person needs to know.
+    /// What a person needs to know.
     pub const fn sentence(self) -> &'static str
         ensures value { result.now ≡ sentence_of self }
     {

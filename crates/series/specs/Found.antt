@@ -15,19 +15,24 @@ Keeps fits (Some v) = fits v ≡ true
 
 -- Whatever limits every value of the rows keeps, the answer keeps.
 abbrev pub KeepsLimits : {V : Type 0} → List (Dated V) → Option V → Type 0
-KeepsLimits {V} rows answer = (fits : V → Bool) → within_limits fits rows ≡ true → Keeps fits answer
+KeepsLimits {V} rows answer =
+    (fits : V → Bool) → within_limits fits rows ≡ true → Keeps fits answer
 
-either_keeps : {V : Type 0} (fits : V → Bool) (o other : Option V) → Keeps fits o → Keeps fits other → Keeps fits (or_else o other)
+either_keeps : {V : Type 0} (fits : V → Bool) (o other : Option V)
+    → Keeps fits o → Keeps fits other → Keeps fits (or_else o other)
 either_keeps fits None other h k = k
 either_keeps fits (Some v) other h k = h
 
-own_keeps : {V : Type 0} (fits : V → Bool) (passes : Bool) (v : V) → fits v ≡ true → Keeps fits (cond passes (Some v) None)
+own_keeps : {V : Type 0} (fits : V → Bool) (passes : Bool) (v : V)
+    → fits v ≡ true → Keeps fits (cond passes (Some v) None)
 own_keeps fits true v h = h
 own_keeps fits false v h = tt
 
-pub kept_found : {V : Type 0} (fits : V → Bool) (passes : ℕ → Bool) (rows : List (Dated V)) → within_limits fits rows ≡ true → Keeps fits (last_value passes rows)
+pub kept_found : {V : Type 0} (fits : V → Bool) (passes : ℕ → Bool) (rows : List (Dated V))
+    → within_limits fits rows ≡ true → Keeps fits (last_value passes rows)
 kept_found fits passes [] h = tt
 kept_found fits passes (row ∷ rows) h =
+    let parts = and_parts (fits row.value) (within_limits fits rows) h in
     either_keeps fits (last_value passes rows) (cond (passes row.date) (Some row.value) None)
-    (kept_found fits passes rows (and_parts (fits row.value) (within_limits fits rows) h).1)
-    (own_keeps fits (passes row.date) row.value (and_parts (fits row.value) (within_limits fits rows) h).0)
+    (kept_found fits passes rows parts.1)
+    (own_keeps fits (passes row.date) row.value parts.0)

@@ -14,16 +14,24 @@ newest rows = last_value (λ _. true) rows
 
 -- From the date of a row up to the day before the next row's date, the answer is the value of that row.
 abbrev pub SteadyOn : {V : Type 0} → List (Dated V) → ℕ → Option V → Type 0
-SteadyOn {V} rows day answer = (above below : List (Dated V)) (row next : Dated V) → rows ≡ above ++ (row ∷ (next ∷ below)) → row.date ≤ day → day < next.date → answer ≡ Some row.value
+SteadyOn {V} rows day answer =
+    (above below : List (Dated V)) (row next : Dated V) → rows ≡ above ++ (row ∷ (next ∷ below))
+    → row.date ≤ day → day < next.date → answer ≡ Some row.value
 
 -- From the day after the date of a row up to the next row's date, the answer is the value of that row.
 abbrev pub SteadyBefore : {V : Type 0} → List (Dated V) → ℕ → Option V → Type 0
-SteadyBefore {V} rows day answer = (above below : List (Dated V)) (row next : Dated V) → rows ≡ above ++ (row ∷ (next ∷ below)) → row.date < day → day ≤ next.date → answer ≡ Some row.value
+SteadyBefore {V} rows day answer =
+    (above below : List (Dated V)) (row next : Dated V) → rows ≡ above ++ (row ∷ (next ∷ below))
+    → row.date < day → day ≤ next.date → answer ≡ Some row.value
 
 -- Where a row is dated the day itself, the answer is its value.
 abbrev pub OwnDayOn : {V : Type 0} → List (Dated V) → ℕ → Option V → Type 0
-OwnDayOn {V} rows day answer = (above below : List (Dated V)) (row : Dated V) → rows ≡ above ++ (row ∷ below) → row.date ≡ day → answer ≡ Some row.value
+OwnDayOn {V} rows day answer =
+    (above below : List (Dated V)) (row : Dated V) → rows ≡ above ++ (row ∷ below)
+    → row.date ≡ day → answer ≡ Some row.value
 
 -- Where a row is dated the day itself, the answer comes from the row above it, if there is one.
 abbrev pub OwnDayBefore : {V : Type 0} → List (Dated V) → ℕ → Option V → Type 0
-OwnDayBefore {V} rows day answer = (above below : List (Dated V)) (row : Dated V) → rows ≡ above ++ (row ∷ below) → row.date ≡ day → answer ≡ newest above
+OwnDayBefore {V} rows day answer =
+    (above below : List (Dated V)) (row : Dated V) → rows ≡ above ++ (row ∷ below)
+    → row.date ≡ day → answer ≡ newest above

@@ -13,7 +13,8 @@ or_else None other = other
 -- The value of the last row whose date passes a test, if one does.
 abbrev pub last_value : {V : Type 0} → (ℕ → Bool) → List (Dated V) → Option V
 last_value passes [] = None
-last_value passes (row ∷ rows) = or_else (last_value passes rows) (cond (passes row.date) (Some row.value) None)
+last_value passes (row ∷ rows) =
+    or_else (last_value passes rows) (cond (passes row.date) (Some row.value) None)
 
 -- In force on a day is the last value dated up to that day.
 abbrev pub in_force_on : {V : Type 0} → List (Dated V) → ℕ → Option V

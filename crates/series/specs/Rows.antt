@@ -28,4 +28,5 @@ within_limits fits rows = list_all (λ row. fits row.value) rows
 
 -- Rows make a series if there are not too many, their dates are real and rise, and their values keep their limits.
 abbrev pub sound : {V : Type 0} → (V → Bool) → List (Dated V) → Bool
-sound fits rows = nat_le (length rows) most_rows && (real rows && (rising rows && within_limits fits rows))
+sound fits rows =
+    nat_le (length rows) most_rows && (real rows && (rising rows && within_limits fits rows))

@@ -2,19 +2,19 @@ use Rattle.std.proofs.Common.{Ok, sym, ap, ◌∙◌}
 use Rattle.std.proofs.lemmas.Result.{err_from_is_err_and}
 use Rattle.refusal.specs.Checks.{first}
 use Rattle.refusal.proofs.First.{still_refused, carried}
-use Rattle.links.specs.Quotations.{checks, place_of, fibre_at}
+use Rattle.links.specs.Quotations.{checks, cell_of, fibre_at}
 use Rattle.links.proofs.price.fibre_price.Goals as goal
 
-pub returns-in_err-place : goal.returns-in_err-place
-returns-in_err-place g c =
+pub returns-in_err-cell : goal.returns-in_err-cell
+returns-in_err-cell g c =
     let m = g.T.Tariff.meaning c.args.sheet.now in
     let o = c.args.order.now in
     let p = err_from_is_err_and c.from_residual.result c.from_residual.ensures.1 in
-    record { answer = rw (p.1, p.2) (still_refused (first (checks m o)) (place_of m o) (fibre_at m (place_of m o)) _ (sym c.place_of.ensures.answer ∙ c.in_err-place.was)) }
+    record { answer = rw (p.1, p.2) (still_refused (first (checks m o)) (cell_of m o) (fibre_at m (cell_of m o)) _ (sym c.cell_of.ensures.answer ∙ c.in_err-cell.was)) }
 
 pub returns : goal.returns
 returns g c =
     let m = g.T.Tariff.meaning c.args.sheet.now in
     let o = c.args.order.now in
-    let is = carried (first (checks m o)) (place_of m o) c.in_ok-place.place (fibre_at m) (sym c.place_of.ensures.answer ∙ c.in_ok-place.was) in
+    let is = carried (first (checks m o)) (cell_of m o) c.in_ok-cell.cell (fibre_at m) (sym c.cell_of.ensures.answer ∙ c.in_ok-cell.was) in
     record { answer = ap Ok c.fibre_at.ensures.value ∙ is }

@@ -5,7 +5,7 @@ use Rattle.links.proofs.price.link_at.Goals as goal
 
 pub price_on-price-requires-clause-most : goal.price_on-price-requires-clause-most
 unfolding reference
-price_on-price-requires-clause-most g c = rw c.price_at-2.ensures.value (reference_most c.args.place.row c.args.place.column)
+price_on-price-requires-clause-most g c = rw c.price_at-2.ensures.value (reference_most c.args.cell.row c.args.cell.column)
 
 pub returns : goal.returns
 unfolding initial reference

@@ -1,6 +1,0 @@
-use Rattle.std.proofs.Common.{◌≡◌, ◌+◌, ◌^◌, ◌≤◌, drop}
-use Rattle.quote_lines.specs.Words.{read_on}
-use Rattle.quote_lines.proofs.number.number_in.Given as goal
-
-abbrev pub invariant-loop-byte : goal.invariant-loop-byte
-invariant-loop-byte l = (l.value + 1 ≤ 10 ^ l.byte-index) × (read_on l.value (drop l.byte-index l.word) ≡ read_on 0 l.word)

@@ -1,4 +1,0 @@
-pub mod Words
-pub mod LineTexts
-pub mod Fields
-pub mod Lines
