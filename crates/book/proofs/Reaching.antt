@@ -26,9 +26,9 @@ use Rattle.book.specs.declared.entries.RegisterEntry.{RegisterEntry}
 use Rattle.book.specs.declared.lines.Line.{Line}
 use Rattle.book.specs.declared.lines.Nature.{Nature}
 use Rattle.book.specs.declared.lines.Nature.TheVariants.{Charge, Contribution, Credit}
-use Rattle.book.specs.declared.zone.Totals.{Totals}
-use Rattle.book.specs.declared.zone.Figures.{Figures}
-use Rattle.book.specs.declared.zone.Event.{Event}
+use Rattle.book.specs.declared.figures.Totals.{Totals}
+use Rattle.book.specs.declared.figures.Figures.{Figures}
+use Rattle.book.specs.declared.event.Event.{Event}
 use Rattle.book.proofs.Totals.{all_of, all_also, all_flat_map, parts_most, total_most, total_map, total_swap}
 use Rattle.book.proofs.Passing.{accepted_is, inside, real_of, none_of}
 use Rattle.book.proofs.Passed.{installation_passed, billing_passed, settling_passed}

@@ -10,8 +10,8 @@ use Rattle.book.specs.Zone.{Tables, counted_roll, counted_register, counted_memb
 use Rattle.book.specs.Answers.{added, credited_roll, settled_roll, settling_effect}
 use Rattle.book.specs.Tally.{member_credited, credited_members}
 use Rattle.book.specs.declared.entries.RegisterEntry.{RegisterEntry}
-use Rattle.book.specs.declared.zone.Figures.{Figures}
-use Rattle.book.specs.declared.zone.Event.{Event}
+use Rattle.book.specs.declared.figures.Figures.{Figures}
+use Rattle.book.specs.declared.event.Event.{Event}
 use Rattle.book.proofs.Totals.{total_most, total_map, total_add, total_swap, take_front}
 use Rattle.book.proofs.Entering.{members_entered, members_credited, Shaped, entered_balances}
 use Rattle.book.proofs.Amounts.{Rated, Sized, amount_most}

@@ -15,7 +15,7 @@ use Rattle.unit_prices.specs.Prices.{unit_contribution}
 use Rattle.book.specs.declared.entries.RegisterEntry.{RegisterEntry}
 use Rattle.book.specs.declared.lines.Line.{Line}
 use Rattle.book.specs.declared.lines.Nature.TheVariants.{Credit}
-use Rattle.book.specs.declared.zone.Totals.{Totals}
+use Rattle.book.specs.declared.figures.Totals.{Totals}
 
 -- An object contributes its unit contribution times its dwellings.
 abbrev pub object_contribution : Meaning → Addition → RegisterEntry → ℕ

@@ -14,9 +14,9 @@ use Rattle.book.specs.Promises.{prepared, launched_on, levied_on}
 use Rattle.book.specs.declared.launched.LaunchedZone.{LaunchedZone}
 use Rattle.book.specs.declared.levy.OpenLevy.{OpenLevy}
 use Rattle.book.specs.declared.lines.Line.{Line}
-use Rattle.book.specs.declared.refused.Refused.{Refused}
-use Rattle.book.specs.declared.zone.Event.{Event}
-use Rattle.book.specs.declared.zone.Figures.{Figures}
+use Rattle.book.specs.declared.outcome.Refused.{Refused}
+use Rattle.book.specs.declared.event.Event.{Event}
+use Rattle.book.specs.declared.figures.Figures.{Figures}
 use Rattle.file_run.specs.declared.books.Books.{Books}
 use Rattle.file_run.specs.declared.ledger.Ledger.{Ledger}
 use Rattle.file_run.specs.declared.notice.RefusedEvent.{RefusedEvent}

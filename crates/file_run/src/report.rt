@@ -9,7 +9,7 @@ use crate::books::Books;
 use crate::notice::Notice;
 use crate::reading::read_file;
 use book::entries::{RegisterEntry, RollEntry};
-use book::zone::Figures;
+use book::figures::Figures;
 use money::signed::SignedMoney;
 use std::alloc::{AllocError, Global};
 use tariff::tariff::Tariff;

@@ -9,8 +9,7 @@ ghost use Rattle.file_run.specs.Zones.{tables_of, Billed, StaysLaunched};
 use crate::ledger::Ledger;
 use book::launched::LaunchedZone;
 use book::levy::OpenLevy;
-use book::refused::Refused;
-use book::written::Written;
+use book::outcome::{Refused, Written};
 use tariff::tariff::Tariff;
 
 // The two differ in the call alone: passed in as a closure, it would take as many lines as each has.

@@ -1,6 +1,6 @@
 use Rattle.std.proofs.Common.{◌≡◌, ◌+◌, ◌*◌, ◌≤◌, drop}
 use Rattle.book.specs.Members.{members_of, whole_weight}
-use Rattle.book.proofs.counted.Operators.whole_weight.Given as goal
+use Rattle.book.proofs.sound_entries.Operators.whole_weight.Given as goal
 
 -- what is left gives the whole
 abbrev pub invariant-loop-member : goal.invariant-loop-member

@@ -1,4 +1,4 @@
-// The plain numbers of a zone, and the event that an open levy keeps.
+// The plain numbers of a zone.
 ghost use Rattle.std.specs.Prelude.{◌≤◌};
 ghost use Rattle.book.specs.Limits.{most_operators, most_objects};
 
@@ -27,20 +27,4 @@ pub(crate) struct Core {
     pub(crate) figures: Figures,
     ghost few_operators: { figures.operators ≤ most_operators },
     ghost few_objects: { figures.objects ≤ most_objects },
-}
-
-// How an operator subscribes: by a first commitment, or by a raise of its rate.
-#[derive(Clone, Copy)]
-pub enum Change {
-    Commitment,
-    Raise,
-}
-
-// A commitment or raise: its day, its operator, and the rate that it leads to.
-#[derive(Clone, Copy)]
-pub struct Event {
-    pub change: Change,
-    pub date: u32,
-    pub operator: u32,
-    pub rate: u32,
 }

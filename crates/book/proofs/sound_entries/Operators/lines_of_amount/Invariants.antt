@@ -1,7 +1,7 @@
 use Rattle.std.proofs.Common.{◌≡◌, ◌+◌, ◌≤◌, drop}
 use Rattle.book.specs.Members.{members_of}
 use Rattle.book.specs.Increases.{amount_lines}
-use Rattle.book.proofs.counted.Operators.lines_of_amount.Given as goal
+use Rattle.book.proofs.sound_entries.Operators.lines_of_amount.Given as goal
 
 -- what is left gives the whole
 abbrev pub invariant-loop-member : goal.invariant-loop-member

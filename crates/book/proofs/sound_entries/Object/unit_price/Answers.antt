@@ -4,7 +4,7 @@ use Rattle.unit_prices.specs.Prices.{unit_price}
 use Rattle.unit_prices.proofs.Bounds.{unit_price_most}
 use Rattle.unit_prices.proofs.Checked.{price_taken}
 use Rattle.book.proofs.Soundness.{sized_of}
-use Rattle.book.proofs.counted.Object.unit_price.Goals as goal
+use Rattle.book.proofs.sound_entries.Object.unit_price.Goals as goal
 
 pub returns : goal.returns
 returns g c =

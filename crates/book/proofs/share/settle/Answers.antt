@@ -1,6 +1,6 @@
 use Rattle.book.specs.Increases.{addition_in}
 use Rattle.book.proofs.Afterwards.{credited_rates, credited_room, credited_written}
-use Rattle.book.proofs.settle.settle.Goals as goal
+use Rattle.book.proofs.share.settle.Goals as goal
 
 pub enter-operators-requires-clause-rates : goal.enter-operators-requires-clause-rates
 enter-operators-requires-clause-rates g c =
