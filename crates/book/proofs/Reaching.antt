@@ -13,7 +13,7 @@ use Rattle.book.specs.Lines.{line}
 use Rattle.book.specs.Members.{Member, member_of, rate_of, weight_to, whole_weight, Addition, entered_members, member_subscribed}
 use Rattle.unit_prices.specs.Prices.{price_at, coefficient_at, earlier, unit_price, unit_contribution}
 use Rattle.book.specs.Billing.{billed, bill, charged}
-use Rattle.book.specs.Sharing.{to_share, serves, unit_share, credit, credits, object_contribution, payout, share_of}
+use Rattle.book.specs.Sharing.{amount_divided, serves, unit_share, credit, credits, object_contribution, payout, share_of}
 use Rattle.book.specs.Zone.{Tables, counted_roll, counted_register, counted_members, Phase, preparing, launched, levied, Effect}
 use Rattle.book.specs.Refusals.{entry_faults}
 use Rattle.book.specs.Calls.{Call, commitment, raise, launch, opening, cabling, share_out, commitment_event, raise_event, opened, cabled}
@@ -82,14 +82,14 @@ module _ (m : Meaning) (law : Lawful m) (a : Addition) (few : a.tranches ≤ 20)
       let s : m.rounded (suc n * suc v) w < suc n + 1 = lt_of_mul-lt-mul_right w (omega arith) in omega arith
 
   credit_fits : (o : RegisterEntry) → Sized o → (x : Member) → weight_to m a.index x.tranches ≤ w → AllByRecursion Fits (credit m a w o x)
-  credit_fits o sized x light = go (serves (to_share m a o) (weight_to m a.index x.tranches)) refl
+  credit_fits o sized x light = go (serves (amount_divided m a o) (weight_to m a.index x.tranches)) refl
     where
-      go : (b : Bool) → serves (to_share m a o) (weight_to m a.index x.tranches) ≡ b →
-          AllByRecursion Fits (cond b (line Credit x.operator o.object (unit_share m (to_share m a o) (weight_to m a.index x.tranches) w) 1 ∷ []) [])
+      go : (b : Bool) → serves (amount_divided m a o) (weight_to m a.index x.tranches) ≡ b →
+          AllByRecursion Fits (cond b (line Credit x.operator o.object (unit_share m (amount_divided m a o) (weight_to m a.index x.tranches) w) 1 ∷ []) [])
       go true e =
           let n = amount_most m law a few o sized in
-          let s = share_most (to_share m a o) (weight_to m a.index x.tranches) (omega arith) light e in
-          (line_fits Credit x.operator o.object (unit_share m (to_share m a o) (weight_to m a.index x.tranches) w) 1 (omega arith) (omega arith), tt)
+          let s = share_most (amount_divided m a o) (weight_to m a.index x.tranches) (omega arith) light e in
+          (line_fits Credit x.operator o.object (unit_share m (amount_divided m a o) (weight_to m a.index x.tranches) w) 1 (omega arith) (omega arith), tt)
       go false e = tt
 
   credit_row_fits : (xs : List Member) → AllByRecursion (λ x. weight_to m a.index x.tranches ≤ w) xs → (o : RegisterEntry) → Sized o → AllByRecursion Fits (flat_map (credit m a w o) xs)
