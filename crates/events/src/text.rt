@@ -111,7 +111,7 @@ impl fmt::Display for Standing {
     }
 }
 
-// The line of an entry or of a refusal.
+/// The line of an entry or of a refusal.
 #[derive(Clone, Copy)]
 pub struct Line<'a>(pub Result<Entry<'a>, Fault>);
 

@@ -9,7 +9,7 @@ use std::alloc::{AllocError, Global};
 use std::io;
 use zone_cases::at_once::MOST_LINES;
 
-// The life that is played, if one has begun, and the strips.
+/// The life that is played, if one has begun, and the strips.
 #[derive(Drop)]
 pub struct Desk {
     life: Option<Life>,

@@ -20,22 +20,22 @@ const REGISTER_PLACES: usize = 70;
 
 pub const STRIP_PLACES: usize = 1_200;
 
-// In preparation or launched. Each levy is shared out at once, so there is no third case.
+/// In preparation or launched. Each levy is shared out at once, so there is no third case.
 #[derive(Drop)]
 pub enum Zone {
     Prepared(PreparedZone),
     Launched(LaunchedZone),
 }
 
-// Where calls write: charges and contributions on one strip, credits on the other.
+/// Where calls write: charges and contributions on one strip, credits on the other.
 #[derive(Drop)]
 pub struct Strips {
     pub bill: Vec<Line>,
     pub credits: Vec<Line>,
 }
 
-// What a call comes to: the zone's state does not take it, it is refused, or it has written so many lines. A share-out may
-// have found too few places at first.
+/// What a call comes to: the zone's state does not take it, it is refused, or it has written so many lines. A share-out may
+/// have found too few places at first.
 #[derive(Clone, Copy)]
 pub enum Outcome {
     NotTaken,

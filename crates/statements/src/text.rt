@@ -9,7 +9,7 @@ use book::entries::RollEntry;
 use file_run::report::Report;
 use std::alloc::{AllocError, Global};
 
-// A statement: what was refused, the operators that the zone counts on this roll, and the totals.
+/// A statement: what was refused, the operators that the zone counts on this roll, and the totals.
 pub fn statement_text(
     heap: Global,
     report: &Report<'_>,

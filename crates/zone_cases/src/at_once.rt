@@ -14,11 +14,11 @@ use book::outcome::{Refused, Written};
 use refusal::Refusal;
 use tariff::tariff::Tariff;
 
-// A share-out of 16 operators and 1,024 objects has no more lines.
+/// A share-out of 16 operators and 1,024 objects has no more lines.
 pub const MOST_LINES: usize = 16_384;
 
-// What an accepted call leads to: the zone, the lines of its bill and of its share-out, and why a share-out on fewer places
-// was refused first, if it was.
+/// What an accepted call leads to: the zone, the lines of its bill and of its share-out, and why a share-out on fewer places
+/// was refused first, if it was.
 #[derive(Drop)]
 pub struct Settled {
     pub zone: LaunchedZone,
@@ -58,8 +58,8 @@ fn billed<T: Tariff>(
     }
 }
 
-// A commitment or raise, shared out at once: first on so many places of the credits' strip, and where those are too few, on
-// all of it. With a place for each line of the longest share-out it is never left open.
+/// A commitment or raise, shared out at once: first on so many places of the credits' strip, and where those are too few, on
+/// all of it. With a place for each line of the longest share-out it is never left open.
 pub fn shared<T: Tariff>(
     zone: LaunchedZone,
     sheet: &T,
