@@ -24,7 +24,8 @@ def block(entries, check_off_by=0):
     return data + check.to_bytes(2, "big")
 
 
-def main():
+def example():
+    """The file: every letter, every refusal of an entry and of a block, and a block that is never read."""
     all_letters_and_faults = [
         entry("E", 20170301, 1, 4, 0, "first operator"),
         entry("E", 20170301, 2, 2, 0, "second"),
@@ -49,12 +50,14 @@ def main():
         entry("x", 20180413, 1, 1, 0, "letter first"),
         entry("A", 20180413, 1, 5, 9, "then blank rule"),
     ]
-    sys.stdout.buffer.write(block(all_letters_and_faults))
-    sys.stdout.buffer.write(block(after_blank))
-    sys.stdout.buffer.write(block([entry("A", 20180414, 1, 5, 0, "fresh block")]))
-    sys.stdout.buffer.write(block([entry("A", 20180415, 1, 6, 0, "never read")], 1))
-    sys.stdout.buffer.write(block([entry("A", 20180416, 1, 7, 0, "nor this")]))
+    return (
+        block(all_letters_and_faults)
+        + block(after_blank)
+        + block([entry("A", 20180414, 1, 5, 0, "fresh block")])
+        + block([entry("A", 20180415, 1, 6, 0, "never read")], 1)
+        + block([entry("A", 20180416, 1, 7, 0, "nor this")])
+    )
 
 
 if __name__ == "__main__":
-    main()
+    sys.stdout.buffer.write(example())

@@ -414,22 +414,23 @@ class Drawing:
         return lines
 
 
-def drawn():
-    seed, count = map(int, sys.argv[1:3]) if len(sys.argv) > 2 else (SEED, DRAWN)
+def drawn(seed, count):
     source = random.Random(seed)
     for number in range(1, count + 1):
         yield f"drawn {number}", Drawing(source).lines()
 
 
-def main():
-    print("# Small lives of a zone, made by tools/make_lives.py; tools/life_model.py describes the lines.")
-    print("E 20170301 1 4")
-    for lives in (sums, indexed_sums, refusals_of_prepared, refusals_of_launched, limits, drawn):
-        for title, lines in lives():
-            print()
-            print("life " + title)
-            print("\n".join(lines))
+def script(seed=SEED, count=DRAWN):
+    """The lines of the script, with so many lives drawn from a seed."""
+    yield "# Small lives of a zone, made by tools/make_lives.py; tools/life_model.py describes the lines."
+    yield "E 20170301 1 4"
+    by_hand = (sums(), indexed_sums(), refusals_of_prepared(), refusals_of_launched(), limits())
+    for lives in (*by_hand, drawn(seed, count)):
+        for title, lines in lives:
+            yield ""
+            yield "life " + title
+            yield from lines
 
 
 if __name__ == "__main__":
-    main()
+    print("\n".join(script(*map(int, sys.argv[1:3]))))

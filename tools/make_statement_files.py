@@ -230,18 +230,19 @@ def cases():
         "three_alike": blocks(weighs_alike(3)),
         "nobody_before": blocks(weighs_alike(0)),
         "full": full_file(),
+        "twenty_years": twenty_years(),
     }
 
 
-def main():
-    (CRATES / "statement" / "stdin").write_bytes(blocks(SMALL))
-    (CRATES / "twenty_years" / "stdin").write_bytes(twenty_years())
-    data = CRATES / "statement_cases" / "data"
-    data.mkdir(exist_ok=True)
-    for name, content in cases().items():
-        (data / name).write_bytes(content)
-    (CRATES / "statement_cases" / "args").write_text("".join(name + "\n" for name in cases()))
+def files():
+    """Each file that is made here, by its path under crates/."""
+    made = {"statement/stdin": blocks(SMALL)}
+    made |= {"statement_cases/data/" + name: content for name, content in cases().items()}
+    made["statement_cases/args"] = "".join(name + "\n" for name in cases()).encode("ascii")
+    return made
 
 
 if __name__ == "__main__":
-    main()
+    for path, content in files().items():
+        (CRATES / path).parent.mkdir(exist_ok=True)
+        (CRATES / path).write_bytes(content)

@@ -233,6 +233,11 @@ class Zone:
 
     # What the calls come to
 
+    def added(self, operator, rate):
+        """k: the new rate less the one that the roll has now. A levy keeps no k, so its share-out asks again."""
+        present = self.known(operator)
+        return rate - (present.rate() if present else 0)
+
     def enter(self, operator, tranches, index):
         present = self.known(operator)
         if present is None:
@@ -244,15 +249,14 @@ class Zone:
         self.check_tables()
         self.check_date(date)
         self.check_change(operator, rate, is_raise)
-        present = self.known(operator)
-        tranches = rate - (present.rate() if present else 0)
+        tranches = self.added(operator, rate)
         if self.launched is None:
             self.enter(operator, tranches, 0)
             self.last = date
             return []
         lines = self.bill(date, operator, tranches)
         refuse_if(len(lines) > strip, 16)
-        self.levy = (date, operator, tranches)
+        self.levy = (date, operator, rate)
         self.last = date
         return lines
 
@@ -306,9 +310,10 @@ class Zone:
         return lines
 
     def share_out(self, strip=1024):
-        date, operator, tranches = self.levy
+        date, operator, rate = self.levy
         self.check_tables()
         self.check_prices()
+        tranches = self.added(operator, rate)
         index = year_index(self.launched, date)
         weights = {
             one.number: sum(

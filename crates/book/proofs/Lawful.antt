@@ -1,29 +1,9 @@
--- The sheets of the examples keep the limits of a tariff.
+-- The coarse sheet keeps the limits of a tariff.
 use Rattle.std.proofs.Common.{◌≡◌, ℕ, ◌+◌, ◌-◌, ◌*◌, ◌/◌, ◌<◌, Bool, true, false, cond, ltb, refl, div-mul-le_self, arith}
 use native.Mathlib.Nat.{lt-div-mul-add}
 use Rattle.std.proofs.lemmas.Bool.{ltb-true}
-use Rattle.calendar.specs.Days.{months_between}
-use Rattle.tariff.specs.Meaning.{Lawful, Near, PriceLimits}
-use Rattle.sheet_parts.specs.Nearness.{near_five_down}
-use Rattle.sheet_parts.specs.RowLimits.{after_limits}
-use Rattle.tariff.specs.declared.kinds.Kind.{Kind}
-use Rattle.tariff.specs.declared.kinds.Kind.TheVariants.{Covered, Connectable, ThirdParty}
-use Rattle.book.specs.Sheets.{flat_price, coarse_rounded, coarse}
-use Rattle.book.specs.Cases.{sheet_down}
-
-flat_limits : (kind : Kind) → PriceLimits (flat_price kind)
-flat_limits Covered = record { some = omega arith; most = omega arith }
-flat_limits Connectable = record { some = omega arith; most = omega arith }
-flat_limits ThirdParty = record { some = omega arith; most = omega arith }
-
-pub down_lawful : Lawful sheet_down
-down_lawful = record {
-  prices = λ kind installed real. flat_limits kind;
-  coefficients = λ installed receipt p q. after_limits (months_between installed receipt);
-  contributions = omega arith;
-  weights = λ index few. omega arith;
-  near = λ n d most some small. near_five_down n d some;
-}
+use Rattle.tariff.specs.Meaning.{Lawful, Near}
+use Rattle.book.specs.Coarse.{coarse_rounded, coarse}
 
 coarse_near : (n d : ℕ) → 0 < d → Near n d (coarse_rounded n d)
 coarse_near n d pos = go (ltb n d) refl

@@ -5,11 +5,10 @@ use Rattle.book.specs.Calls.{commitment, raise, launch, opening, share_out}
 use Rattle.book.specs.Life.{begins}
 use Rattle.book.specs.Cuts.{Cut, ends, raised, passed}
 use Rattle.book.specs.Laws.{EveryLifeAccounted, EveryCutFair}
-use Rattle.book.specs.Runs.{Step, ◌on◌, lived, calls}
-use Rattle.book.specs.Sheets.{coarse, blank}
-use Rattle.book.specs.Witnesses.{effect_at}
+use Rattle.book.specs.Runs.{blank, Step, ◌on◌, effect_at, lived, calls}
+use Rattle.book.specs.Coarse.{coarse}
 use Rattle.book.proofs.Lawful.{coarse_lawful}
-use Rattle.book.proofs.Witnessing.{lives, accepts}
+use Rattle.book.proofs.Stepping.{lives, accepts}
 
 -- three operators of one tranche, a PM of one dwelling
 abbrev small : List Step

@@ -14,9 +14,8 @@ pub mod Following
 pub mod Reaching
 pub mod Counting
 pub mod Ending
-pub mod Working
 pub mod Lawful
-pub mod Witnessing
+pub mod Stepping
 pub mod Least
 pub mod Rolls
 pub mod Living

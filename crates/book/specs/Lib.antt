@@ -14,11 +14,7 @@ pub mod Cuts
 pub mod Laws
 pub mod Grounds
 pub mod Runs
-pub mod Sheets
-pub mod Cases
-pub mod Order
-pub mod Witnesses
-pub mod Foreign
+pub mod Coarse
 pub mod Passing
 pub mod Promises
 pub mod Increases

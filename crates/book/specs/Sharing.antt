@@ -4,8 +4,10 @@
 --   serves                whether an amount and a weight are both above 0
 --   share, due            an operator's share of an object; 1 where it has one, else 0
 --   credits               the credit lines of a share-out
-use Rattle.std.specs.Prelude.{ℕ, zero, suc, ◌*◌, Bool, true, false, cond, List, [], ◌∷◌, ◌==◌, flat_map, length}
+--   moved_by              what a share-out moves: contributed, credited, unshared, credit lines
+use Rattle.std.specs.Prelude.{ℕ, zero, suc, ◌*◌, ◌≤◌, Bool, true, false, cond, List, [], ◌∷◌, ◌==◌, flat_map, length}
 use Rattle.tariff.specs.Meaning.{Meaning}
+use Rattle.book.specs.Limits.{most_contributed, most_credited, most_credit_lines}
 use Rattle.book.specs.Lists.{total}
 use Rattle.book.specs.Lines.{line}
 use Rattle.book.specs.Members.{Member, Addition, weight_to, whole_weight}
@@ -78,3 +80,10 @@ moved_by m a objects members = record {
   unshared = left_unshared m a objects members;
   credit_lines = length (credits m a objects members);
 }
+
+-- No share-out moves more than this.
+pub record IsShareOutsMost (moved : Totals) : Type 0 where
+  pub contributed : moved.contributed ≤ most_contributed
+  pub credited : moved.credited ≤ most_credited
+  pub unshared : moved.unshared ≤ most_contributed
+  pub credit_lines : moved.credit_lines ≤ most_credit_lines

@@ -39,9 +39,13 @@ pub(crate) fn bill<T: Tariff>(
     strip: &mut [Line],
 ) -> usize
     requires real { Holds (is_date increase.date) }
-    requires room { length (billing_of (T.meaning sheet.now) (addition_in increase) objects.items.now) ≤ length strip.old }
-    ensures number { result ≡ length (billing_of (T.meaning sheet.now) (addition_in increase) objects.entry.items.now) }
-    ensures strip { strip.new ≡ written (billing_of (T.meaning sheet.now) (addition_in increase) objects.entry.items.now) strip.old }
+    requires room { let m = T.meaning sheet.now in
+        length (billing_of m (addition_in increase) objects.items.now) ≤ length strip.old }
+    ensures number { let m = T.meaning sheet.now in
+        result ≡ length (billing_of m (addition_in increase) objects.entry.items.now) }
+    ensures strip { let m = T.meaning sheet.now in
+        let lines = billing_of m (addition_in increase) objects.entry.items.now in
+        strip.new ≡ written lines strip.old }
 {
     let operator = increase.operator;
     let mut next = 0;
@@ -72,9 +76,14 @@ pub(crate) fn charge<T: Tariff>(
     operators: Operators<'_>,
     strip: &mut [Line],
 ) -> usize
-    requires room { length (charged (T.meaning sheet.now) object.item.now (members_of operators.items.now)) ≤ length strip.old }
-    ensures number { result ≡ length (charged (T.meaning sheet.now) object.entry.item.now (members_of operators.entry.items.now)) }
-    ensures strip { strip.new ≡ written (charged (T.meaning sheet.now) object.entry.item.now (members_of operators.entry.items.now)) strip.old }
+    requires room { let m = T.meaning sheet.now in
+        length (charged m object.item.now (members_of operators.items.now)) ≤ length strip.old }
+    ensures number { let m = T.meaning sheet.now in
+        let members = members_of operators.entry.items.now in
+        result ≡ length (charged m object.entry.item.now members) }
+    ensures strip { let m = T.meaning sheet.now in
+        let members = members_of operators.entry.items.now in
+        strip.new ≡ written (charged m object.entry.item.now members) strip.old }
 {
     let price = object.price(sheet);
     for (place, member) in operators.items.iter().enumerate() {

@@ -15,9 +15,11 @@ use tariff::tariff::YEAR_INDICES;
 pub(crate) fn enter(increase: Increase, roll: &mut [RollEntry], counted: usize) -> usize
     requires counted { counted ≤ length roll.old }
     requires rates { list_any (λ e. bad_rate (rate_of e.tranches)) (take counted roll.old) ≡ false }
-    requires room { length (entered_roll (addition_in increase) (take counted roll.old)) ≤ length roll.old }
+    requires room { let a = addition_in increase in
+        length (entered_roll a (take counted roll.old)) ≤ length roll.old }
     ensures number { result ≡ length (entered_roll (addition_in increase) (take counted roll.old)) }
-    ensures roll { roll.new ≡ written (entered_roll (addition_in increase) (take counted roll.old)) roll.old }
+    ensures roll { let a = addition_in increase in
+        roll.new ≡ written (entered_roll a (take counted roll.old)) roll.old }
 {
     let year = increase.index as usize;
     match place_of(&roll[..counted], increase.operator) {

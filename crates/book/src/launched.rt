@@ -62,8 +62,10 @@ impl LaunchedZone {
         rate: u32,
     ) -> Result<Written<OpenLevy>, Refused<LaunchedZone>>
         ensures call { let t = tables roll.now register.now in
-            IsAnswered (T.meaning sheet.now) (launched_on self t) (call_commitment date operator rate)
-            strip.old strip.new (written_count result) (written_answer levied_on t strip.new result) }
+            let call = call_commitment date operator rate in
+            let answer = written_answer levied_on t strip.new result in
+            IsAnswered (T.meaning sheet.now) (launched_on self t) call
+            strip.old strip.new (written_count result) answer }
         ensures kept { IfErr result (λ back. back.kept ≡ self) }
         ensures laws { WholeLifeLaws }
     {
@@ -88,8 +90,10 @@ impl LaunchedZone {
         rate: u32,
     ) -> Result<Written<OpenLevy>, Refused<LaunchedZone>>
         ensures call { let t = tables roll.now register.now in
-            IsAnswered (T.meaning sheet.now) (launched_on self t) (call_raise date operator rate)
-            strip.old strip.new (written_count result) (written_answer levied_on t strip.new result) }
+            let call = call_raise date operator rate in
+            let answer = written_answer levied_on t strip.new result in
+            IsAnswered (T.meaning sheet.now) (launched_on self t) call
+            strip.old strip.new (written_count result) answer }
         ensures kept { IfErr result (λ back. back.kept ≡ self) }
         ensures laws { WholeLifeLaws }
         ensures cut { let t = tables roll.now register.now in
@@ -118,8 +122,10 @@ impl LaunchedZone {
     ) -> Result<Written<LaunchedZone>, Refused<LaunchedZone>>
         ensures call { let before = tables roll.now register.old in
             let after = tables roll.now register.new in
-            IsAnswered (T.meaning sheet.now) (launched_on self before) (call_opening date object dwellings)
-            strip.old strip.new (written_count result) (written_answer launched_on after strip.new result) }
+            let call = call_opening date object dwellings in
+            let answer = written_answer launched_on after strip.new result in
+            IsAnswered (T.meaning sheet.now) (launched_on self before) call
+            strip.old strip.new (written_count result) answer }
         ensures kept { IfErr result (λ back. (back.kept ≡ self) × (register.new ≡ register.old)) }
         ensures laws { WholeLifeLaws }
     {
@@ -146,8 +152,10 @@ impl LaunchedZone {
     ) -> Result<Written<LaunchedZone>, Refused<LaunchedZone>>
         ensures call { let before = tables roll.now register.old in
             let after = tables roll.now register.new in
-            IsAnswered (T.meaning sheet.now) (launched_on self before) (call_cabling date object third dwellings)
-            strip.old strip.new (written_count result) (written_answer launched_on after strip.new result) }
+            let call = call_cabling date object third dwellings in
+            let answer = written_answer launched_on after strip.new result in
+            IsAnswered (T.meaning sheet.now) (launched_on self before) call
+            strip.old strip.new (written_count result) answer }
         ensures kept { IfErr result (λ back. (back.kept ≡ self) × (register.new ≡ register.old)) }
         ensures laws { WholeLifeLaws }
     {
@@ -168,8 +176,9 @@ impl LaunchedZone {
             let before = tables roll.now register.old in
             let after = tables roll.now register.new in
             let places = length strip.old in
+            let answer = written_answer launched_on after strip.new result in
             IsWritten (installation m self.core.figures self.launch_date before places object)
-            strip.old strip.new (written_count result) (written_answer launched_on after strip.new result) }
+            strip.old strip.new (written_count result) answer }
         ensures kept { IfErr result (λ back. (back.kept ≡ self) × (register.new ≡ register.old)) }
     {
         match self.check_installation(sheet, Tables { roll, register }, strip.len(), &object) {
@@ -212,8 +221,9 @@ impl LaunchedZone {
         ensures answer { let m = T.meaning sheet.now in
             let t = tables roll.now register.now in
             let places = length strip.old in
+            let answer = written_answer levied_on t strip.new result in
             IsWritten (billing m self.core.figures self.launch_date t places event)
-            strip.old strip.new (written_count result) (written_answer levied_on t strip.new result) }
+            strip.old strip.new (written_count result) answer }
         ensures kept { IfErr result (λ back. back.kept ≡ self) }
     {
         match self.check_billing(sheet, Tables { roll, register }, strip.len(), &event) {

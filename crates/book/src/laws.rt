@@ -2,7 +2,6 @@
 ghost use Rattle.std.specs.Prelude.{◌-◌};
 ghost use Rattle.book.specs.Laws.{EveryLifeAccounted, EveryCutFair};
 ghost use Rattle.book.specs.Grounds.{ShareOutFollows, LinesCounted, EveryLifeFits, EveryShareOutFits, BilledIsEntered};
-ghost use Rattle.book.specs.Witnesses.{Story, Parts};
 ghost use Rattle.refusal.specs.declared.Refusal.TheVariants.{StripTooShort};
 
 // In every life, over every lawful sheet, at the start and after each call, members, objects and totals are the
@@ -38,11 +37,4 @@ pub const fn numbers_fit()
 // The tranches that a share-out enters are those that its event was billed for, in the event's year index.
 pub const fn billed_tranches_enter()
     ensures tables { BilledIsEntered (λ k. k) }
-{}
-
-// The laws speak of lives and cuts that there are: a life with an accepted and a refused call of every kind, and a
-// raise cut in three: 23.908600 euros at once, three times 7.969533 in parts.
-pub const fn laws_have_cases()
-    ensures life { Story }
-    ensures cut { Parts 23908600 7969533 }
 {}

@@ -69,8 +69,9 @@ impl OpenLevy {
     ) -> Result<Written<LaunchedZone>, Refused<OpenLevy>>
         ensures call { let before = tables roll.old register.now in
             let after = tables roll.new register.now in
+            let answer = written_answer launched_on after strip.new result in
             IsAnswered (T.meaning sheet.now) (levied_on self before) call_share_out
-            strip.old strip.new (written_count result) (written_answer launched_on after strip.new result) }
+            strip.old strip.new (written_count result) answer }
         ensures kept { IfErr result (λ back. (back.kept ≡ self) × (roll.new ≡ roll.old)) }
         ensures laws { WholeLifeLaws }
     {

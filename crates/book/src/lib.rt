@@ -8,7 +8,6 @@ mod checks;
 mod counted;
 mod enter;
 pub mod entries;
-pub mod examples;
 mod increase;
 pub mod launched;
 pub mod laws;

@@ -1,6 +1,7 @@
 // What an object costs, and what it contributes.
 ghost use Rattle.std.specs.Prelude.{◌≡◌, ◌≤◌, T as Holds};
 ghost use Rattle.calendar.specs.Days.{is_date};
+ghost use Rattle.book.specs.Limits.{most_price, most_unit_price, most_unit_contribution, most_contribution};
 ghost use Rattle.book.specs.Billing.{price_at, coefficient_at, unit_price, unit_contribution};
 ghost use Rattle.book.specs.Increases.{addition_in};
 ghost use Rattle.book.specs.Sharing.{object_contribution};
@@ -17,8 +18,9 @@ const WHOLE: u32 = 100;
 impl<'a> Object<'a> {
     // The price per tranche and dwelling.
     pub(crate) fn price<T: Tariff>(self, sheet: &T) -> u64
-        ensures value { result ≡ price_at (T.meaning sheet.now) self.entry.item.now.kind self.entry.item.now.installed }
-        ensures most { result ≤ 500000000 }
+        ensures value { let o = self.entry.item.now in
+            result ≡ price_at (T.meaning sheet.now) o.kind o.installed }
+        ensures most { result ≤ most_price }
     {
         u64::from(
             sheet
@@ -30,8 +32,10 @@ impl<'a> Object<'a> {
     // What a dwelling costs for the tranches of an increase, on its day.
     pub(crate) fn unit_price<T: Tariff>(self, sheet: &T, increase: Increase) -> u64
         requires real { Holds (is_date increase.date) }
-        ensures value { result ≡ unit_price (T.meaning sheet.now) self.entry.item.now.kind self.entry.item.now.installed increase.date increase.tranches }
-        ensures most { result ≤ 40000000000 }
+        ensures value { let o = self.entry.item.now in
+            let m = T.meaning sheet.now in
+            result ≡ unit_price m o.kind o.installed increase.date increase.tranches }
+        ensures most { result ≤ most_unit_price }
     {
         let price = self.price(sheet) * u64::from(increase.tranches);
         if self.item.installed >= increase.date {
@@ -46,8 +50,10 @@ impl<'a> Object<'a> {
 
     // What of it goes to the earlier operators.
     pub(crate) fn unit_contribution<T: Tariff>(self, sheet: &T, increase: Increase) -> u64
-        ensures value { result ≡ unit_contribution (T.meaning sheet.now) self.entry.item.now.kind self.entry.item.now.installed increase.date increase.tranches }
-        ensures most { result ≤ 10000000000 }
+        ensures value { let o = self.entry.item.now in
+            let m = T.meaning sheet.now in
+            result ≡ unit_contribution m o.kind o.installed increase.date increase.tranches }
+        ensures most { result ≤ most_unit_contribution }
     {
         if self.item.installed >= increase.date {
             return 0;
@@ -61,8 +67,9 @@ impl<'a> Object<'a> {
 
     // What the object contributes: its unit contribution times its dwellings.
     pub(crate) fn contribution<T: Tariff>(self, sheet: &T, increase: Increase) -> u64
-        ensures value { result ≡ object_contribution (T.meaning sheet.now) (addition_in increase) self.entry.item.now }
-        ensures most { result ≤ 100000000000000 }
+        ensures value { let m = T.meaning sheet.now in
+            result ≡ object_contribution m (addition_in increase) self.entry.item.now }
+        ensures most { result ≤ most_contribution }
     {
         self.unit_contribution(sheet, increase) * u64::from(self.item.dwellings)
     }

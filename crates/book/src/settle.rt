@@ -4,7 +4,7 @@ ghost use Rattle.std.specs.List.{list_any};
 ghost use Rattle.book.specs.Limits.{most_operators};
 ghost use Rattle.book.specs.Lists.{one_of, written};
 ghost use Rattle.book.specs.Members.{members_of, entered_roll};
-ghost use Rattle.book.specs.Sharing.{credits, moved_by};
+ghost use Rattle.book.specs.Sharing.{credits, moved_by, IsShareOutsMost};
 ghost use Rattle.book.specs.Answers.{credited_roll};
 ghost use Rattle.book.specs.Increases.{addition_in};
 ghost use Rattle.book.specs.Refusals.{entry_faults};
@@ -31,15 +31,27 @@ pub(crate) fn settle<T: Tariff>(
     requires operators { counted ≤ most_operators }
     requires counted { counted ≤ length roll.old }
     requires roll { list_any (λ e. one_of (entry_faults e)) (take counted roll.old) ≡ false }
-    requires place { length (entered_roll (addition_in increase) (take counted roll.old)) ≤ length roll.old }
-    requires room { length (credits (T.meaning sheet.now) (addition_in increase) objects.items.now (members_of (take counted roll.old))) ≤ length strip.old }
+    requires place { let a = addition_in increase in
+        length (entered_roll a (take counted roll.old)) ≤ length roll.old }
+    requires room { let m = T.meaning sheet.now in
+        let a = addition_in increase in
+        length (credits m a objects.items.now (members_of (take counted roll.old))) ≤ length strip.old }
     ensures moved { let m = T.meaning sheet.now in
         let a = addition_in increase in
         result.0 ≡ moved_by m a objects.entry.items.now (members_of (take counted roll.old)) }
-    ensures most { (result.0.contributed ≤ 102400000000000000) × (result.0.credited ≤ 1638400000000000000) × (result.0.unshared ≤ 102400000000000000) × (result.0.credit_lines ≤ 16384) }
-    ensures strip { strip.new ≡ written (credits (T.meaning sheet.now) (addition_in increase) objects.entry.items.now (members_of (take counted roll.old))) strip.old }
-    ensures roll { roll.new ≡ written (entered_roll (addition_in increase) (credited_roll (T.meaning sheet.now) (addition_in increase) objects.entry.items.now (take counted roll.old))) roll.old }
-    ensures number { result.1 ≡ length (entered_roll (addition_in increase) (credited_roll (T.meaning sheet.now) (addition_in increase) objects.entry.items.now (take counted roll.old))) }
+    ensures most { IsShareOutsMost result.0 }
+    ensures strip { let m = T.meaning sheet.now in
+        let a = addition_in increase in
+        let members = members_of (take counted roll.old) in
+        strip.new ≡ written (credits m a objects.entry.items.now members) strip.old }
+    ensures roll { let m = T.meaning sheet.now in
+        let a = addition_in increase in
+        let credited = credited_roll m a objects.entry.items.now (take counted roll.old) in
+        roll.new ≡ written (entered_roll a credited) roll.old }
+    ensures number { let m = T.meaning sheet.now in
+        let a = addition_in increase in
+        let credited = credited_roll m a objects.entry.items.now (take counted roll.old) in
+        result.1 ≡ length (entered_roll a credited) }
 {
     let totals = share_out(sheet, increase, objects, &mut roll[..counted], strip);
     let operators = enter(increase, roll, counted);

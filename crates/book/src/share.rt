@@ -4,7 +4,7 @@ ghost use Rattle.std.specs.List.{list_any};
 ghost use Rattle.book.specs.Limits.{most_operators};
 ghost use Rattle.book.specs.Lists.{one_of, written};
 ghost use Rattle.book.specs.Members.{members_of};
-ghost use Rattle.book.specs.Sharing.{serves, credits, moved_by};
+ghost use Rattle.book.specs.Sharing.{serves, credits, moved_by, IsShareOutsMost};
 ghost use Rattle.book.specs.Answers.{credited_roll};
 ghost use Rattle.book.specs.Increases.{addition_in, amount_lines, lines_shared};
 ghost use Rattle.book.specs.Refusals.{entry_faults};
@@ -46,13 +46,19 @@ pub(crate) fn share_out<T: Tariff>(
 ) -> Totals
     requires operators { length roll.old ≤ most_operators }
     requires roll { list_any (λ e. one_of (entry_faults e)) roll.old ≡ false }
-    requires room { length (credits (T.meaning sheet.now) (addition_in increase) objects.items.now (members_of roll.old)) ≤ length strip.old }
+    requires room { let m = T.meaning sheet.now in
+        let a = addition_in increase in
+        length (credits m a objects.items.now (members_of roll.old)) ≤ length strip.old }
     ensures moved { let m = T.meaning sheet.now in
         let a = addition_in increase in
         result ≡ moved_by m a objects.entry.items.now (members_of roll.old) }
-    ensures strip { strip.new ≡ written (credits (T.meaning sheet.now) (addition_in increase) objects.entry.items.now (members_of roll.old)) strip.old }
-    ensures roll { roll.new ≡ credited_roll (T.meaning sheet.now) (addition_in increase) objects.entry.items.now roll.old }
-    ensures most { (result.contributed ≤ 102400000000000000) × (result.credited ≤ 1638400000000000000) × (result.unshared ≤ 102400000000000000) × (result.credit_lines ≤ 16384) }
+    ensures strip { let m = T.meaning sheet.now in
+        let a = addition_in increase in
+        strip.new ≡ written (credits m a objects.entry.items.now (members_of roll.old)) strip.old }
+    ensures roll { let m = T.meaning sheet.now in
+        let a = addition_in increase in
+        roll.new ≡ credited_roll m a objects.entry.items.now roll.old }
+    ensures most { IsShareOutsMost result }
 {
     let whole = Operators { items: roll }.whole_weight(sheet, increase);
     let mut contributed = 0u64;
@@ -87,7 +93,8 @@ impl<'a> Operators<'a> {
     // How many credit lines an amount has: one for each operator that weighs something. A loop and no chain, as
     // `whole_weight` and `lines_shared` are: a step asks that its entry is within its limits, which no closure is told.
     fn lines_of_amount<T: Tariff>(self, sheet: &T, increase: Increase, amount: u64) -> usize
-        ensures number { result ≡ amount_lines (T.meaning sheet.now) increase.index amount (members_of self.entry.items.now) }
+        ensures number { let m = T.meaning sheet.now in
+            result ≡ amount_lines m increase.index amount (members_of self.entry.items.now) }
         ensures most { result ≤ most_operators }
     {
         let mut lines = 0usize;
@@ -108,7 +115,10 @@ pub(crate) fn lines_shared<T: Tariff>(
     objects: Objects<'_>,
     operators: Operators<'_>,
 ) -> usize
-    ensures number { result ≡ lines_shared (T.meaning sheet.now) (addition_in increase) objects.entry.items.now (members_of operators.entry.items.now) }
+    ensures number { let m = T.meaning sheet.now in
+        let a = addition_in increase in
+        let members = members_of operators.entry.items.now in
+        result ≡ lines_shared m a objects.entry.items.now members }
 {
     let mut lines = 0usize;
     for item in objects.items {

@@ -1,6 +1,6 @@
 // What tranches come to: a rate, and the weight by which contributions are shared.
 ghost use Rattle.std.specs.Prelude.{◌≡◌, ◌≤◌};
-ghost use Rattle.book.specs.Limits.{most_index, most_tranches};
+ghost use Rattle.book.specs.Limits.{most_index, most_tranches, most_weight, most_whole_weight};
 ghost use Rattle.book.specs.Members.{members_of, rate_of, weight_to, whole_weight};
 
 use crate::counted::Operators;
@@ -29,7 +29,7 @@ pub(crate) fn weight_to<T: Tariff>(sheet: &T, tranches: &[u32; YEAR_INDICES], in
     requires index { index ≤ most_index }
     requires rate { rate_of tranches.now ≤ most_tranches }
     ensures value { result ≡ weight_to (T.meaning sheet.now) index tranches.now }
-    ensures most { result ≤ 4000 }
+    ensures most { result ≤ most_weight }
 {
     let mut weight = 0u64;
     for (year, count) in tranches[..=index as usize].iter().enumerate() {
@@ -41,8 +41,9 @@ pub(crate) fn weight_to<T: Tariff>(sheet: &T, tranches: &[u32; YEAR_INDICES], in
 impl<'a> Operators<'a> {
     // The weight of all operators together, in the year index of an increase.
     pub(crate) fn whole_weight<T: Tariff>(self, sheet: &T, increase: Increase) -> u32
-        ensures value { result ≡ whole_weight (T.meaning sheet.now) increase.index (members_of self.entry.items.now) }
-        ensures most { result ≤ 64000 }
+        ensures value { let m = T.meaning sheet.now in
+            result ≡ whole_weight m increase.index (members_of self.entry.items.now) }
+        ensures most { result ≤ most_whole_weight }
     {
         let mut whole = 0u32;
         for member in self.items {

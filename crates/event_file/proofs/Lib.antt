@@ -1,6 +1,6 @@
 pub mod Remainders
 pub mod Parts
-pub mod Steps
+pub mod Remaining
 pub mod Deciding
 pub mod Exact
 pub mod Changes

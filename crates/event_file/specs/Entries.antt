@@ -9,8 +9,8 @@ use Rattle.refusal.specs.declared.Refusal.TheVariants.{UnknownLetter, BlankRuleB
 use Rattle.refusal.specs.Checks.{first, unless, ◌⇒◌}
 use Rattle.std.specs.List.{list_all}
 use Rattle.event_file.specs.Format.{Shown, commitment, raise, opening, cabling, launch, label_stands}
-use Rattle.event_file.specs.declared.event.Event.{Event}
-use Rattle.event_file.specs.declared.event.Event.TheVariants.{Commitment, Raise, Opening, Cabling, Launch}
+use Rattle.event_file.specs.declared.event.FileEvent.{FileEvent}
+use Rattle.event_file.specs.declared.event.FileEvent.TheVariants.{Commitment, Raise, Opening, Cabling, Launch}
 use Rattle.event_file.specs.declared.entry.Letter.{Letter}
 use Rattle.event_file.specs.declared.entry.Letter.TheVariants as letter
 use Rattle.event_file.specs.declared.entry.Fields.{Fields}
@@ -93,7 +93,7 @@ told after bs =
     (cond (letter_in bs == 0) blank (event (event_in bs)))
 
 -- The program's entry as a plain value: the label is what the borrowed part of the block holds.
-abbrev pub shown_event : Event → Shown
+abbrev pub shown_event : FileEvent → Shown
 shown_event (Commitment d n a l) = commitment d n a l.now
 shown_event (Raise d n a l) = raise d n a l.now
 shown_event (Opening d n a l) = opening d n a l.now
@@ -101,11 +101,11 @@ shown_event (Cabling d n a t l) = cabling d n a t l.now
 shown_event (Launch d l) = launch d l.now
 
 -- No event is a blank.
-abbrev pub shown : Option Event → Told
+abbrev pub shown : Option FileEvent → Told
 shown (Some e) = event (shown_event e)
 shown None = blank
 
-abbrev pub shown_answer : Result (Option Event) Refusal → Result Told Refusal
+abbrev pub shown_answer : Result (Option FileEvent) Refusal → Result Told Refusal
 shown_answer (Ok e) = Ok (shown e)
 shown_answer (Err x) = Err x
 

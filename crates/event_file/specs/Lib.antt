@@ -4,4 +4,6 @@ pub mod Format
 pub mod Entries
 pub mod Places
 pub mod Reading
+pub mod Telling
+pub mod Positions
 pub mod Laws

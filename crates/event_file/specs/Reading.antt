@@ -1,28 +1,22 @@
--- A file read from its first entry to its last.
---   Opened        what opening a file gives
+-- A file read entry by entry, from its first block to the last that passes its check.
 --   blank_before  whether a blank stands before an entry in its block
 --   entry_told    what an entry of a block tells
---   Outcome       what a step of the reading gives: an entry with its block and its place in the block, or the end
---   step_at       the outcome at a position, or the fault
---   step_after    the position that follows
+--   Item          what a turn of the reading gives: an entry at its place, or a fault
+--   file_read     all that the reading of a file gives, in order
+--   Unread        what a reader shows: its file, and what is left of it to read
+--   Opened        what opening a file gives
 --   Gives         what a turn of a loop over a reader gives, and the reader after it
--- A position is the number of entries passed: 17 to a block.
-use Rattle.std.specs.Prelude.{◌≡◌, ℕ, ◌+◌, ◌*◌, ◌/◌, ◌%◌, ◌<◌, ◌-◌, ◌≤◌, Bool, cond, List, length, take, drop, Some, None, Option, Ok, Err, Result, ◌==◌, nat_le}
-use Rattle.std.specs.Iterator.{Count, at_most}
+use Rattle.std.specs.Prelude.{◌≡◌, ℕ, zero, suc, ◌+◌, ◌*◌, ◌/◌, ◌-◌, ◌≤◌, Bool, true, List, [], ◌∷◌, ◌++◌, length, take, drop, Some, None, Option, Ok, Err, Result}
+use Rattle.std.specs.Iterator.{YieldsFirstBy, Count, item_count}
 use Rattle.std.specs.List.{list_any, range_with_len}
 use Rattle.refusal.specs.declared.Refusal.{Refusal}
 use Rattle.event_file.specs.Blocks.{block_check, block_of, entry_of, file_blocks}
 use Rattle.event_file.specs.Entries.{Told, event, blank, told, is_blank, shown}
-use Rattle.event_file.specs.Format.{label_of}
+use Rattle.event_file.specs.Format.{label_of, label_stands}
+use Rattle.event_file.specs.declared.event.Entry.{Entry}
 use Rattle.event_file.specs.declared.fault.Fault.{Fault}
+use Rattle.event_file.specs.declared.fault.Place.{Place}
 use Rattle.event_file.specs.declared.fault.Place.TheVariants as place
-use Rattle.event_file.specs.declared.reader.Reader.{Reader}
-use Rattle.event_file.specs.declared.reader.Entry.{Entry}
-
--- A file opens at its first entry, or is refused as a whole for its length.
-abbrev pub Opened : List ℕ → Result Reader Fault → Type 0
-Opened bs (Ok d) = (file_blocks (length bs) ≡ Ok (length bs / 512)) × (d.bytes.now ≡ bs) × (d.position ≡ 0)
-Opened bs (Err f) = (file_blocks (length bs) ≡ Err f.refusal) × (f.place ≡ place.File)
 
 -- A blank stands before an entry if one of the earlier entries of its block is a blank.
 abbrev pub blank_before : List ℕ → ℕ → Bool
@@ -31,87 +25,107 @@ blank_before b n = list_any (λ i. is_blank (entry_of b i)) (range_with_len 0 n)
 abbrev pub entry_told : List ℕ → ℕ → Result Told Refusal
 entry_told b n = told (blank_before b n) (entry_of b n)
 
-pub data Outcome : Type 0 where
-  -- block and entry, both counted from 1
-  entry_at : ℕ → ℕ → Told → Outcome
-  end : Outcome
+-- An entry with its block and its place in the block, both counted from 1.
+pub record ShownEntry : Type 0 where
+  pub block : ℕ
+  pub entry : ℕ
+  pub told : Told
 
-abbrev pub placed : ℕ → ℕ → Result Told Refusal → Result Outcome Fault
-placed b n (Ok t) = Ok (entry_at b n t)
-placed b n (Err x) = Err (record { refusal = x; place = place.Entry b n })
+abbrev pub Item : Type 0
+Item = Result ShownEntry Fault
 
--- The entries of all whole blocks.
-abbrev pub places : List ℕ → ℕ
-places bs = length bs / 512 * 17
+abbrev pub fault_at : Refusal → ℕ → ℕ → Fault
+fault_at refusal block entry = record { refusal = refusal; place = place.Entry block entry }
 
--- A block is checked before its first entry.
-abbrev pub check_at : List ℕ → ℕ → Result Unit Refusal
-check_at b n = cond (n == 0) (block_check b) (Ok tt)
+abbrev pub placed : ℕ → ℕ → Result Told Refusal → Item
+placed block entry (Ok t) = Ok (record { block = block; entry = entry; told = t })
+placed block entry (Err refusal) = Err (fault_at refusal block entry)
 
--- A block that fails its check is refused as a whole, and gives no entry.
-abbrev pub refused_block : ℕ → Refusal → Result Outcome Fault
-refused_block n x = Err (record { refusal = x; place = place.Block n })
+-- The next entries of a block, so many of them, in order. Blocks and places are counted from 1 where they are told.
+abbrev pub entries_read : List ℕ → ℕ → ℕ → ℕ → List Item
+entries_read b number place zero = []
+entries_read b number place (suc more) =
+    placed (number + 1) (place + 1) (entry_told b place) ∷ entries_read b number (place + 1) more
+
+-- A file that fails as a whole, or a block that fails its check, gives its fault alone, and nothing is read after it.
+abbrev pub only_fault : Place → Refusal → List Item
+only_fault at refusal = Err (record { refusal = refusal; place = at }) ∷ []
 
 abbrev pub checked : {A : Type 0} → Result Unit Refusal → (Refusal → A) → A → A
 checked (Ok u) stop go = go
-checked (Err x) stop go = stop x
+checked (Err refusal) stop go = stop refusal
 
--- The entry at a position, counted from 1 as its block is.
-abbrev pub entry_step : List ℕ → ℕ → Result Outcome Fault
-entry_step bs p = placed (p / 17 + 1) (p % 17 + 1) (entry_told (block_of bs (p / 17)) (p % 17))
+-- The next blocks of a file, so many of them, in order, each checked before its seventeen entries.
+abbrev pub blocks_read : List ℕ → ℕ → ℕ → List Item
+blocks_read bs number zero = []
+blocks_read bs number (suc more) =
+    checked (block_check (block_of bs number)) (only_fault (place.Block (number + 1)))
+    (entries_read (block_of bs number) number 0 17 ++ blocks_read bs (number + 1) more)
 
-unfoldable pub step_at : List ℕ → ℕ → Result Outcome Fault
-step_at bs p =
-    cond (nat_le (places bs) p) (Ok end)
-    (checked (check_at (block_of bs (p / 17)) (p % 17)) (refused_block (p / 17 + 1)) (entry_step bs p))
+abbrev pub opened_read : List ℕ → Result ℕ Refusal → List Item
+opened_read bs (Ok blocks) = blocks_read bs 0 blocks
+opened_read bs (Err refusal) = only_fault place.File refusal
 
--- A block that fails its check ends the reading; any other entry, refused or not, is passed.
-unfoldable pub step_after : List ℕ → ℕ → ℕ
-step_after bs p =
-    cond (nat_le (places bs) p) p
-    (checked (check_at (block_of bs (p / 17)) (p % 17)) (λ _. places bs) (p + 1))
+abbrev pub file_read : List ℕ → List Item
+file_read bs = opened_read bs (file_blocks (length bs))
+
+pub record Unread : Type 0 where
+  pub file : List ℕ
+  pub left : List Item
+
+-- A reader of a file, with all of it left: 128 blocks of 17 entries at most.
+pub record OpenedAt (bs : List ℕ) (reader : Unread) : Type 0 where
+  pub lawful : file_blocks (length bs) ≡ Ok (length bs / 512)
+  pub file : reader.file ≡ bs
+  pub left : reader.left ≡ file_read bs
+  pub few : length reader.left ≤ 2176
+
+-- A file is opened, or refused as a whole for its length: the fault is then all that it gives.
+abbrev pub Opened : List ℕ → Result Unread Fault → Type 0
+Opened bs (Ok reader) = OpenedAt bs reader
+Opened bs (Err fault) = file_read bs ≡ Err fault ∷ []
 
 -- The program's entry, with its place, as a plain value.
-abbrev pub shown_entry : Result Entry Fault → Result Outcome Fault
-shown_entry (Ok e) = Ok (entry_at e.block e.entry (shown e.event))
-shown_entry (Err f) = Err f
+abbrev pub shown_entry : Result Entry Fault → Item
+shown_entry (Ok e) = Ok (record { block = e.block; entry = e.entry; told = shown e.event })
+shown_entry (Err fault) = Err fault
 
--- No entry is the end.
-abbrev pub shown_step : Result (Option Entry) Fault → Result Outcome Fault
-shown_step (Ok (Some e)) = Ok (entry_at e.block e.entry (shown e.event))
-shown_step (Ok None) = Ok end
-shown_step (Err f) = Err f
+-- What a step gives, if it gives something: no entry is the end.
+abbrev pub shown_step : Result (Option Entry) Fault → Option Item
+shown_step (Ok (Some e)) = Some (shown_entry (Ok e))
+shown_step (Ok None) = None
+shown_step (Err fault) = Some (Err fault)
 
--- The sixteen bytes of the file where the label of the entry at a position stands.
-abbrev pub label_at : List ℕ → ℕ → List ℕ
-label_at bs p = take 16 (drop (p / 17 * 512 + (p % 17 * 30 + 14)) bs)
+-- The sixteen bytes of a file where the label of an entry stands.
+abbrev pub label_at : List ℕ → ℕ → ℕ → List ℕ
+label_at bs block entry = take 16 (drop ((block - 1) * 512 + ((entry - 1) * 30 + 14)) bs)
 
--- An event that a step gives has this label.
-abbrev pub LabelIs : List ℕ → Result Outcome Fault → Type 0
-LabelIs l (Ok (entry_at b n (event e))) = label_of e ≡ l
-LabelIs l (Ok (entry_at b n blank)) = Unit {0}
-LabelIs l (Ok end) = Unit {0}
-LabelIs l (Err f) = Unit {0}
+-- The label of an event is what the file has at its place, and can be a label.
+pub record LabelStands (bs : List ℕ) (block entry : ℕ) (label : List ℕ) : Type 0 where
+  pub in_place : label ≡ label_at bs block entry
+  pub stands : label_stands label ≡ true
 
--- A step that is not the end goes forward from p to q, and never past the n entries that there are.
-abbrev pub Forward : ℕ → ℕ → ℕ → Result Outcome Fault → Type 0
-Forward p q n (Ok (entry_at b k t)) = (p < q) × (q ≤ n)
-Forward p q n (Ok end) = Unit {0}
-Forward p q n (Err f) = (p < q) × (q ≤ n)
+abbrev pub LabelOf : List ℕ → ℕ → ℕ → Told → Type 0
+LabelOf bs block entry (event e) = LabelStands bs block entry (label_of e)
+LabelOf bs block entry blank = Unit {0}
 
--- What a loop over a reader is given, as a step of the reading.
-abbrev pub shown_item : Option (Result Entry Fault) → Result Outcome Fault
-shown_item (Some r) = shown_entry r
-shown_item None = Ok end
+-- An entry that a step gives has this label, if it tells an event.
+abbrev pub LabelIs : List ℕ → Option Item → Type 0
+LabelIs bs (Some (Ok e)) = LabelOf bs e.block e.entry e.told
+LabelIs bs (Some (Err fault)) = Unit {0}
+LabelIs bs None = Unit {0}
 
--- A turn of a loop over a reader is a step of the reading.
-pub record Gives (old : Reader) (r : Option (Result Entry Fault)) (new : Reader) : Type 0 where
-  pub answer : shown_item r ≡ step_at old.bytes.now old.position
-  pub position : new.position ≡ step_after old.bytes.now old.position
-  pub forward : Forward old.position new.position (places old.bytes.now) (shown_item r)
-  pub kept : new.bytes ≡ old.bytes
-  pub label : LabelIs (label_at old.bytes.now old.position) (shown_item r)
+-- What a loop over a reader is given.
+abbrev pub shown_item : Option (Result Entry Fault) → Option Item
+shown_item (Some r) = Some (shown_entry r)
+shown_item None = None
 
--- A loop ends with the entries that are left.
-abbrev pub left : Reader → Count
-left r = at_most (places r.bytes.now - r.position)
+-- A turn of a loop over a reader gives the first of what was left, and the rest is left then.
+pub record Gives (old : Unread) (r : Option (Result Entry Fault)) (new : Unread) : Type 0 where
+  pub answer : YieldsFirstBy shown_entry (λ (u : Unread). u.left) old r new
+  pub kept : new.file ≡ old.file
+  pub label : LabelIs old.file (shown_item r)
+
+-- A loop ends with what is left.
+abbrev pub turns_left : Unread → Count
+turns_left reader = item_count (λ (u : Unread). u.left) reader

@@ -5,7 +5,7 @@ ghost use Rattle.event_file.specs.Format.{label_stands, printable};
 ghost use Rattle.event_file.specs.Entries.{FieldsOf, LetterOf, bad_fields, event_in, event_of, event_refusal, filled_in_vain, is_blank, is_zero, letter_byte, most_form, shown_answer, shown_event, told};
 ghost use Rattle.event_file.specs.Laws.{OnlyItsBytes, ReadsBack};
 
-use crate::event::Event;
+use crate::event::FileEvent;
 use refusal::Refusal;
 
 pub const ENTRY_BYTES: usize = 30;
@@ -146,43 +146,43 @@ impl<'a> Fields<'a> {
     }
 
     // The event that the fields mean.
-    fn event(self) -> Event<'a>
+    fn event(self) -> FileEvent<'a>
         ensures value { shown_event result ≡ event_of (letter_byte self.entry.letter) self.entry.date self.entry.number self.entry.amount self.entry.form self.entry.label.now }
     {
         let (date, label) = (self.date, self.label);
         match self.letter {
-            Letter::Commitment => Event::Commitment {
+            Letter::Commitment => FileEvent::Commitment {
                 date,
                 operator: self.number,
                 rate: self.amount,
                 label,
             },
-            Letter::Raise => Event::Raise {
+            Letter::Raise => FileEvent::Raise {
                 date,
                 operator: self.number,
                 rate: self.amount,
                 label,
             },
-            Letter::Opening => Event::Opening {
+            Letter::Opening => FileEvent::Opening {
                 date,
                 object: self.number,
                 dwellings: self.amount,
                 label,
             },
-            Letter::Cabling => Event::Cabling {
+            Letter::Cabling => FileEvent::Cabling {
                 date,
                 object: self.number,
                 dwellings: self.amount,
                 third_party: self.form == 1,
                 label,
             },
-            Letter::Launch => Event::Launch { date, label },
+            Letter::Launch => FileEvent::Launch { date, label },
         }
     }
 }
 
 // The event of a letter and the bytes after it, if it may stand where it does.
-fn event_in(letter: Letter, rest: &[u8], after_blank: bool) -> Result<Event<'_>, Refusal>
+fn event_in(letter: Letter, rest: &[u8], after_blank: bool) -> Result<FileEvent<'_>, Refusal>
     ensures answer { MatchResult result (λ e. (event_refusal after_blank (letter_byte letter ∷ rest.now) ≡ None) × (shown_event e ≡ event_in (letter_byte letter ∷ rest.now))) (λ x. event_refusal after_blank (letter_byte letter ∷ rest.now) ≡ Some x) }
 {
     if after_blank {
@@ -198,7 +198,7 @@ fn event_in(letter: Letter, rest: &[u8], after_blank: bool) -> Result<Event<'_>,
 }
 
 // What an entry tells, an event or a blank, where a blank stands before it in its block or not.
-pub fn read_entry(bytes: &[u8], after_blank: bool) -> Result<Option<Event<'_>>, Refusal>
+pub fn read_entry(bytes: &[u8], after_blank: bool) -> Result<Option<FileEvent<'_>>, Refusal>
     ensures answer { shown_answer result ≡ told after_blank bytes.now }
     ensures back { ReadsBack }
     ensures exact { OnlyItsBytes }

@@ -3,30 +3,31 @@ ghost use Rattle.std.specs.Prelude.{◌≡◌};
 ghost use Rattle.event_file.specs.Format.{label_of};
 ghost use Rattle.event_file.specs.Entries.{shown_event};
 
+/// What an event of a file tells: dates as YYYYMMDD, rates in tranches, labels of sixteen bytes.
 #[derive(Clone, Copy)]
-pub enum Event<'a> {
-    // An operator joins at a rate.
+pub enum FileEvent<'a> {
+    /// An operator joins at a rate.
     Commitment {
         date: u32,
         operator: u32,
         rate: u32,
         label: &'a [u8],
     },
-    // An operator goes up to a new rate.
+    /// An operator goes up to a new rate.
     Raise {
         date: u32,
         operator: u32,
         rate: u32,
         label: &'a [u8],
     },
-    // A PM opens.
+    /// A PM opens.
     Opening {
         date: u32,
         object: u32,
         dwellings: u32,
         label: &'a [u8],
     },
-    // A site is cabled, by a third party or not: a yes or no, as the form byte is.
+    /// A site is cabled, by a third party or not: a yes or no, as the form byte is.
     Cabling {
         date: u32,
         object: u32,
@@ -34,24 +35,40 @@ pub enum Event<'a> {
         third_party: bool,
         label: &'a [u8],
     },
-    // The zone is launched.
+    /// The zone is launched.
     Launch {
         date: u32,
         label: &'a [u8],
     },
 }
 
-impl<'a> Event<'a> {
-    // The sixteen bytes that name the event to people.
+impl<'a> FileEvent<'a> {
+    /// The sixteen bytes that name the event to people.
     pub fn label(self) -> &'a [u8]
         ensures value { result.now ≡ label_of (shown_event self.entry) }
     {
         match self {
-            Event::Commitment { label, .. }
-            | Event::Raise { label, .. }
-            | Event::Opening { label, .. }
-            | Event::Cabling { label, .. }
-            | Event::Launch { label, .. } => label,
+            FileEvent::Commitment { label, .. }
+            | FileEvent::Raise { label, .. }
+            | FileEvent::Opening { label, .. }
+            | FileEvent::Cabling { label, .. }
+            | FileEvent::Launch { label, .. } => label,
         }
     }
+}
+
+/// An entry with its block and its place in the block, both from 1. A blank tells of no event.
+#[derive(Clone, Copy)]
+pub struct Entry<'a> {
+    pub block: usize,
+    pub entry: usize,
+    pub event: Option<FileEvent<'a>>,
+}
+
+/// An event with the block and the place in the block of the entry that tells it, both from 1.
+#[derive(Clone, Copy)]
+pub struct PlacedEvent<'a> {
+    pub block: usize,
+    pub entry: usize,
+    pub event: FileEvent<'a>,
 }

@@ -1,29 +1,36 @@
 // A file read entry by entry, each block checked before its entries.
-ghost use Rattle.std.specs.Prelude.{◌≡◌, ◌+◌, ◌*◌, ◌/◌, ◌^◌, ◌<◌, length};
+ghost use Rattle.std.specs.Prelude.{◌≡◌, ◌+◌, ◌*◌, ◌/◌, ◌^◌, ◌<◌, drop, length, slice_get};
 ghost use Rattle.event_file.specs.Blocks.{part_of};
 ghost use Rattle.event_file.specs.Entries.{shown_answer};
-ghost use Rattle.event_file.specs.Reading.{Forward, Gives, LabelIs, Opened, blank_before, check_at, entry_told, label_at, left, placed, places, shown_entry, shown_step, step_after, step_at};
+ghost use Rattle.event_file.specs.Reading.{Gives, LabelIs, Opened, blank_before, entry_told, placed, shown_entry, shown_step, turns_left};
+ghost use Rattle.event_file.specs.Positions.{check_at};
 ghost use Rattle.event_file.specs.Laws.{SameEntries};
 
 use crate::block::{BLOCK_BYTES, BLOCK_ENTRIES, blocks_in, check_block};
 use crate::entry::{ENTRY_BYTES, is_blank, read_entry};
-use crate::event::Event;
+use crate::event::{Entry, FileEvent};
 use crate::fault::{Fault, Place};
 use refusal::Refusal;
+use std::marker::Model;
 
-// The bytes of a file and how many of its entries are passed.
-#[derive(Clone, Copy)]
+/// A file, and what is left of it to read. It lends the labels of its events from the file's own bytes.
+#[derive(Drop)]
 pub struct Reader<'a> {
     bytes: &'a [u8],
+    // How many of its entries are passed.
     position: usize,
 }
 
-// An entry with its block and its place in the block, both from 1. A blank tells of no event.
-#[derive(Clone, Copy)]
-pub struct Entry<'a> {
-    pub block: usize,
-    pub entry: usize,
-    pub event: Option<Event<'a>>,
+impl<'a> Model for Reader<'a> {
+    ghost use Rattle.std.specs.Prelude.{◌≤◌};
+    ghost use Rattle.event_file.specs.Reading.{Unread};
+    ghost use Rattle.event_file.specs.Positions.{left_at, places};
+
+    ghost Value = { Unread };
+
+    ghost view = { λ r. record { file = r.bytes.now; left = left_at r.bytes.now r.position } };
+
+    ghost invariant = { λ r. r.position ≤ places r.bytes.now };
 }
 
 // A part of some bytes that are cut into parts of one size, counted from 0.
@@ -43,7 +50,7 @@ fn blank_before(block: &[u8; BLOCK_BYTES], place: usize) -> bool
 }
 
 // What an entry of a block tells.
-fn told_in(block: &[u8; BLOCK_BYTES], place: usize) -> Result<Option<Event<'_>>, Refusal>
+fn told_in(block: &[u8; BLOCK_BYTES], place: usize) -> Result<Option<FileEvent<'_>>, Refusal>
     requires { place < 17 }
     ensures answer { shown_answer result ≡ entry_told block.now place }
 {
@@ -86,25 +93,24 @@ fn entry_in(block: &[u8; BLOCK_BYTES], number: usize, place: usize) -> Result<En
 }
 
 impl<'a> Reader<'a> {
-    // A file is read only if its length is lawful.
+    /// Opens a file at its first entry, or refuses it as a whole for its length (19).
     pub fn open(bytes: &'a [u8]) -> Result<Reader<'a>, Fault>
         ensures answer { Opened bytes.now result }
     {
-        blocks_in(bytes.len())
-            .map(|_| Reader { bytes, position: 0 })
-            .map_err(|refusal| Fault {
-                refusal,
-                place: Place::File,
-            })
+        blocks_in(bytes.len()).map_err(|refusal| Fault {
+            refusal,
+            place: Place::File,
+        })?;
+        Ok(Reader { bytes, position: 0 })
     }
 
-    // The next entry, if there is one. A block that fails its check ends the reading.
+    /// The next entry, if there is one. An entry is refused by 21, 22 or 23, and the reading goes on after it; a block
+    /// that fails its check is refused as a whole (20) and ends the reading.
     pub fn next_entry(&mut self) -> Result<Option<Entry<'a>>, Fault>
-        ensures answer { shown_step result ≡ step_at self.old.bytes.now self.old.position }
-        ensures position { self.new.position ≡ step_after self.old.bytes.now self.old.position }
-        ensures forward { Forward self.old.position self.new.position (places self.old.bytes.now) (shown_step result) }
-        ensures kept { self.new.bytes ≡ self.old.bytes }
-        ensures label { LabelIs (label_at self.old.bytes.now self.old.position) (shown_step result) }
+        ensures answer { shown_step result ≡ slice_get self.old.left 0 }
+        ensures left { self.new.left ≡ drop 1 self.old.left }
+        ensures kept { self.new.file ≡ self.old.file }
+        ensures label { LabelIs self.old.file (shown_step result) }
         ensures entries { SameEntries }
     {
         let end = self.bytes.len() / BLOCK_BYTES * BLOCK_ENTRIES;
@@ -125,14 +131,14 @@ impl<'a> Reader<'a> {
     }
 }
 
-// The entries and the refusals that are left, one after another. `next_entry` stays beside it, for readers that go on by
-// `?`, and promises more.
+/// The entries and the refusals that are left, one after another. `next_entry` stays beside it, for readers that go on by
+/// `?`.
 impl<'a> Iterator for Reader<'a> {
     type Item = Result<Entry<'a>, Fault>;
 
     ghost next_gives = { Gives };
 
-    ghost remaining = { left };
+    ghost remaining = { turns_left };
 
     fn next(&mut self) -> Option<Result<Entry<'a>, Fault>> {
         self.next_entry().transpose()

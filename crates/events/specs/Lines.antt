@@ -13,7 +13,7 @@ use Rattle.event_file.specs.Entries.{Told, event, blank, shown}
 use Rattle.event_file.specs.declared.fault.Fault.{Fault}
 use Rattle.event_file.specs.declared.fault.Place.{Place}
 use Rattle.event_file.specs.declared.fault.Place.TheVariants.{File, Block, Entry}
-use Rattle.event_file.specs.declared.reader.Entry as reader
+use Rattle.event_file.specs.declared.event.Entry as events
 
 abbrev pub letter_of : Shown → List ℕ
 letter_of (commitment d n a l) = codes "E"
@@ -76,6 +76,6 @@ place_text (Entry b n) = codes "block " ++ (decimal b ++ (codes " entry " ++ dec
 abbrev pub fault_line : Fault → List ℕ
 fault_line f = place_text f.place ++ (codes ": refused " ++ (decimal (number_of f.refusal) ++ (codes ", " ++ sentence_of f.refusal)))
 
-abbrev pub line_text : Result reader.Entry Fault → List ℕ
+abbrev pub line_text : Result events.Entry Fault → List ℕ
 line_text (Ok e) = entry_line e.block e.entry (shown e.event)
 line_text (Err f) = fault_line f

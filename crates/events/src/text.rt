@@ -3,78 +3,77 @@ ghost use Rattle.std.specs.Prelude.{◌≡◌, Some};
 ghost use Rattle.event_file.specs.Entries.{shown, shown_event};
 ghost use Rattle.events.specs.Lines.{date_of, form_of, letter_of, line_text, numbers_text, place_text, told_text};
 
-use event_file::event::Event;
+use event_file::event::{Entry, FileEvent};
 use event_file::fault::{Fault, Place};
 use event_file::label::printed;
-use event_file::reader::Entry;
 use std::fmt;
 
 // The letter of an event.
-fn letter(event: Event<'_>) -> &'static str
+fn letter(event: FileEvent<'_>) -> &'static str
     ensures value { result.now ≡ letter_of (shown_event event.entry) }
 {
     match event {
-        Event::Commitment { .. } => "E",
-        Event::Raise { .. } => "A",
-        Event::Opening { .. } => "P",
-        Event::Cabling { .. } => "S",
-        Event::Launch { .. } => "L",
+        FileEvent::Commitment { .. } => "E",
+        FileEvent::Raise { .. } => "A",
+        FileEvent::Opening { .. } => "P",
+        FileEvent::Cabling { .. } => "S",
+        FileEvent::Launch { .. } => "L",
     }
 }
 
 // The date of an event.
-fn date(event: Event<'_>) -> u32
+fn date(event: FileEvent<'_>) -> u32
     ensures value { result ≡ date_of (shown_event event.entry) }
 {
     match event {
-        Event::Commitment { date, .. }
-        | Event::Raise { date, .. }
-        | Event::Opening { date, .. }
-        | Event::Cabling { date, .. }
-        | Event::Launch { date, .. } => date,
+        FileEvent::Commitment { date, .. }
+        | FileEvent::Raise { date, .. }
+        | FileEvent::Opening { date, .. }
+        | FileEvent::Cabling { date, .. }
+        | FileEvent::Launch { date, .. } => date,
     }
 }
 
 // The form of an event: 1 for third-party cabling, else 0.
-fn form(event: Event<'_>) -> u8
+fn form(event: FileEvent<'_>) -> u8
     ensures value { result ≡ form_of (shown_event event.entry) }
 {
     match event {
-        Event::Cabling { third_party, .. } => u8::from(third_party),
+        FileEvent::Cabling { third_party, .. } => u8::from(third_party),
         _ => 0,
     }
 }
 
 // The numbers of an event, with their names.
 #[derive(Clone, Copy)]
-struct Numbers<'a>(Event<'a>);
+struct Numbers<'a>(FileEvent<'a>);
 
 impl<'a> fmt::Display for Numbers<'a> {
     ghost output = { λ numbers. Some (numbers_text (shown_event numbers.0)) };
 
     fn fmt<W: fmt::Write>(&self, f: &mut fmt::Formatter<W>) -> fmt::Result {
         match self.0 {
-            Event::Commitment { operator, rate, .. } | Event::Raise { operator, rate, .. } => {
+            FileEvent::Commitment { operator, rate, .. } | FileEvent::Raise { operator, rate, .. } => {
                 write!(f, " operator {operator} rate {rate}")
             }
-            Event::Opening {
+            FileEvent::Opening {
                 object,
                 dwellings,
                 ..
             }
-            | Event::Cabling {
+            | FileEvent::Cabling {
                 object,
                 dwellings,
                 ..
             } => { write!(f, " object {object} dwellings {dwellings}") }
-            Event::Launch { .. } => Ok(()),
+            FileEvent::Launch { .. } => Ok(()),
         }
     }
 }
 
 // What an entry tells, in words.
 #[derive(Clone, Copy)]
-struct Words<'a>(Option<Event<'a>>);
+struct Words<'a>(Option<FileEvent<'a>>);
 
 impl<'a> fmt::Display for Words<'a> {
     ghost output = { λ words. Some (told_text (shown words.0)) };

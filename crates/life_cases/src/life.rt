@@ -64,11 +64,12 @@ impl Life {
         Ok(())
     }
 
-    // Plays a call, on the sheet where the zone asks one. A sheet that cannot be made refuses the call.
+    // Plays a call, on the sheet where the zone asks one, and else on that of the prices and terms that a life begins with.
+    // A sheet that cannot be made refuses the call.
     pub(crate) fn play(&mut self, strips: &mut Strips, call: Call) -> Outcome {
         let played = match (&self.ledger.zone, call) {
             (Zone::Prepared(_), _) | (_, Call::Launch(_)) => {
-                Ok(self.ledger.play(&FlatSheet::empty(), strips, call))
+                self.play_on_flat(PRICES, TERMS, strips, call)
             }
             _ => self.play_on_sheet(strips, call),
         };
@@ -79,22 +80,35 @@ impl Life {
     fn play_on_sheet(&mut self, strips: &mut Strips, call: Call) -> Result<Outcome, Refusal> {
         match self.choice {
             Choice::Flat => {
-                let mut sheet = FlatSheet::empty();
-                sheet.fill(self.prices, self.terms)?;
-                Ok(self.ledger.play(&sheet, strips, call))
+                self.play_on_flat(self.prices, self.terms, strips, call)
             }
             Choice::Indexed => {
-                let mut sheet = IndexedSheet::empty();
+                let mut place = None;
                 let wages = self.wages.as_slice();
                 let consumer = self.consumer.as_slice();
-                sheet.fill(self.prices, self.terms, wages, consumer)?;
-                Ok(self.ledger.play(&sheet, strips, call))
+                IndexedSheet::fill(&mut place, self.prices, self.terms, wages, consumer)?;
+                let Some(sheet) = &place else { unreachable!() };
+                Ok(self.ledger.play(sheet, strips, call))
             }
             Choice::Dated => {
-                let mut sheet = DatedSheet::empty();
-                sheet.fill(self.records.as_slice(), self.terms)?;
-                Ok(self.ledger.play(&sheet, strips, call))
+                let mut place = None;
+                DatedSheet::fill(&mut place, self.records.as_slice(), self.terms)?;
+                let Some(sheet) = &place else { unreachable!() };
+                Ok(self.ledger.play(sheet, strips, call))
             }
         }
+    }
+
+    fn play_on_flat(
+        &mut self,
+        prices: Prices,
+        terms: Terms,
+        strips: &mut Strips,
+        call: Call,
+    ) -> Result<Outcome, Refusal> {
+        let mut place = None;
+        FlatSheet::fill(&mut place, prices, terms)?;
+        let Some(sheet) = &place else { unreachable!() };
+        Ok(self.ledger.play(sheet, strips, call))
     }
 }

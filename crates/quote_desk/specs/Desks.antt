@@ -75,7 +75,7 @@ priced m enquiry = priced_as m enquiry.item enquiry.order
 abbrev pub on_flat : Enquiry → Result Quotation Refusal
 on_flat enquiry =
     then_do (making (prices_in_limits desk_prices && terms_in_limits desk_terms))
-    (λ _. priced (flat (Some desk_prices) desk_terms) enquiry)
+    (λ _. priced (flat desk_prices desk_terms) enquiry)
 
 -- On the indexed sheet, unless what it is made of is refused.
 abbrev pub on_indexed : (wages consumer : List (Dated IndexNumber)) → Enquiry → Result Quotation Refusal
@@ -84,7 +84,7 @@ on_indexed wages consumer enquiry =
     (making
     ((prices_in_limits desk_prices && terms_in_limits desk_terms)
     && (sound index_fits wages && sound index_fits consumer)))
-    (λ _. priced (indexed (Some desk_prices) desk_terms wages consumer) enquiry)
+    (λ _. priced (indexed desk_prices desk_terms wages consumer) enquiry)
 
 -- On the dated sheet, unless what it is made of is refused.
 abbrev pub on_dated : List (Dated Prices) → Enquiry → Result Quotation Refusal

@@ -109,9 +109,10 @@ impl Desk {
 fn on_flat(enquiry: &Enquiry) -> Result<Quotation, Refusal>
     ensures value { result ≡ on_flat enquiry.now }
 {
-    let mut sheet = FlatSheet::empty();
-    sheet.fill(PRICES, TERMS)?;
-    price_of(&sheet, enquiry)
+    let mut place = None;
+    FlatSheet::fill(&mut place, PRICES, TERMS)?;
+    let Some(sheet) = &place else { unreachable!() };
+    price_of(sheet, enquiry)
 }
 
 fn on_indexed<'a>(
@@ -121,17 +122,19 @@ fn on_indexed<'a>(
 ) -> Result<Quotation, Refusal>
     ensures value { result ≡ on_indexed wages.now consumer.now enquiry.now }
 {
-    let mut sheet = IndexedSheet::empty();
-    sheet.fill(PRICES, TERMS, wages, consumer)?;
-    price_of(&sheet, enquiry)
+    let mut place = None;
+    IndexedSheet::fill(&mut place, PRICES, TERMS, wages, consumer)?;
+    let Some(sheet) = &place else { unreachable!() };
+    price_of(sheet, enquiry)
 }
 
 fn on_dated(records: &[Dated<Prices>], enquiry: &Enquiry) -> Result<Quotation, Refusal>
     ensures value { result ≡ on_dated records.now enquiry.now }
 {
-    let mut sheet = DatedSheet::empty();
-    sheet.fill(records, TERMS)?;
-    price_of(&sheet, enquiry)
+    let mut place = None;
+    DatedSheet::fill(&mut place, records, TERMS)?;
+    let Some(sheet) = &place else { unreachable!() };
+    price_of(sheet, enquiry)
 }
 
 // The price of what is asked for, or why there is none.

@@ -1,6 +1,5 @@
 pub mod Leading
 pub mod Blanks
 pub mod Noticing
-pub mod Remaining
 pub mod Running
 pub mod Lifelong

@@ -9,7 +9,7 @@ use Rattle.book.specs.declared.zone.Totals.{Totals}
 use Rattle.book.proofs.Accounts.{every_life_accounted}
 use Rattle.book.proofs.Mirroring.{mirrors}
 use Rattle.book.proofs.Reaching.{every_life_fits}
-use Rattle.book.proofs.Witnessing.{lives}
+use Rattle.book.proofs.Stepping.{lives}
 use Rattle.run.specs.Reports.{calls_made, ending, file_steps, paid_out, RunsAsLife}
 
 module _ (m : Meaning) (law : Lawful m) (t : Tables) (bs : List ℕ) where

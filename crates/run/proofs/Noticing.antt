@@ -1,23 +1,18 @@
 -- The notices of what a file tells, part by part.
-use Rattle.std.proofs.Common.{◌≡◌, ℕ, List, [], ◌∷◌, ◌++◌, Some, None, Err, Option, sym, refl, ap, ◌∙◌, append_assoc}
+use Rattle.std.proofs.Common.{◌≡◌, ℕ, List, [], ◌∷◌, ◌++◌, Some, sym, refl, ap, ◌∙◌, append_assoc}
 use Rattle.refusal.specs.declared.Refusal.{Refusal}
 use Rattle.tariff.specs.Meaning.{Meaning}
 use Rattle.event_file.specs.Format.{Shown}
+use Rattle.event_file.specs.Telling.{Telling, told_event, told_fault}
 use Rattle.book.specs.Zone.{State}
 use Rattle.book.specs.Runs.{Step, answer_at, next, lived}
-use Rattle.run.specs.Telling.{Telling, told_event, told_fault}
 use Rattle.run.specs.Taking.{call_of, refusal_to, steps_for}
 use Rattle.run.specs.Reports.{bare, labelled, notice_of, notices, steps_told}
-use Rattle.run.specs.Zones.{answered_as}
 
 -- an event that is refused has one notice
-pub refused_notice : (m : Meaning) (s : State) (block entry : ℕ) (e : Shown) (refusal : Refusal) → Err refusal ≡ answered_as (refusal_to m s (call_of e)) →
+pub refused_notice : (m : Meaning) (s : State) (block entry : ℕ) (e : Shown) (refusal : Refusal) → refusal_to m s (call_of e) ≡ Some refusal →
     labelled block entry e refusal ∷ [] ≡ notices m s (told_event block entry e ∷ [])
-refused_notice m s block entry e refusal is = go (refusal_to m s (call_of e)) is
-  where
-    go : (o : Option Refusal) → Err refusal ≡ answered_as o → labelled block entry e refusal ∷ [] ≡ notice_of block entry e o ++ []
-    go None wrong = cc
-    go (Some other) same = cc
+refused_notice m s block entry e refusal is = ap (λ o. notice_of block entry e o ++ []) (sym is)
 
 -- steps go on from where others led
 pub lived_on : (m : Meaning) (s : State) (xs ys : List Step) → lived m s (xs ++ ys) ≡ lived m (lived m s xs) ys

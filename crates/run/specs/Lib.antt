@@ -1,4 +1,3 @@
-pub mod Telling
 pub mod Taking
 pub mod Reports
 pub mod Zones

@@ -8,13 +8,14 @@ use Rattle.std.specs.Prelude.{ℕ, ◌+◌, cond, List, [], ◌∷◌, ◌++◌,
 use Rattle.refusal.specs.declared.Refusal.{Refusal}
 use Rattle.tariff.specs.Meaning.{Meaning}
 use Rattle.event_file.specs.Format.{Shown, label_of}
+use Rattle.event_file.specs.Reading.{fault_at}
+use Rattle.event_file.specs.Telling.{Telling, told_event, told_fault, file_tells}
 use Rattle.event_file.specs.declared.fault.Fault.{Fault}
 use Rattle.book.specs.Zone.{State, Tables, Phase, preparing, launched, levied}
 use Rattle.book.specs.Life.{Life, empty_state}
 use Rattle.book.specs.Laws.{Accounted, HeldUnder}
 use Rattle.book.specs.Runs.{Step, lived, calls}
 use Rattle.book.specs.Tally.{Made}
-use Rattle.run.specs.Telling.{Telling, told_event, told_fault, fault_at, file_tells}
 use Rattle.run.specs.Taking.{call_of, steps_for, refusal_to}
 
 -- A byte before what is left of the bytes after it: an end blank goes.

@@ -5,6 +5,7 @@
 use Rattle.std.specs.Prelude.{◌≡◌, ℕ, List, Some, None, Ok, Err, Option, Result}
 use Rattle.refusal.specs.declared.Refusal.{Refusal}
 use Rattle.tariff.specs.Meaning.{Meaning}
+use Rattle.event_file.specs.declared.event.PlacedEvent.{PlacedEvent}
 use Rattle.book.specs.Zone.{State, Tables, Answer}
 use Rattle.book.specs.Answers.{billing}
 use Rattle.book.specs.Calls.{Call}
@@ -18,6 +19,7 @@ use Rattle.book.specs.declared.zone.Event.{Event}
 use Rattle.book.specs.declared.zone.Figures.{Figures}
 use Rattle.run.specs.declared.books.Books.{Books}
 use Rattle.run.specs.declared.ledger.Ledger.{Ledger}
+use Rattle.run.specs.declared.notice.RefusedEvent.{RefusedEvent}
 use Rattle.run.specs.declared.zone.Zone.{Zone}
 use Rattle.run.specs.declared.zone.Zone.TheVariants.{Prepared, Launched}
 use Rattle.run.specs.Taking.{Leads}
@@ -32,10 +34,10 @@ tables_of ledger = tables ledger.roll ledger.register
 abbrev pub state_of : Books → State
 state_of books = state_in books.zone (tables_of books.ledger)
 
--- No refusal, or one, as the answer of a call.
-abbrev pub answered_as : Option Refusal → Result (Unit {0}) Refusal
-answered_as None = Ok tt
-answered_as (Some refusal) = Err refusal
+-- No refusal, or one that comes back with the event, as the answer to an event.
+abbrev pub AnsweredAs : PlacedEvent → Option Refusal → Result (Unit {0}) RefusedEvent → Type 0
+AnsweredAs placed refusal (Ok taken) = refusal ≡ None
+AnsweredAs placed refusal (Err back) = (refusal ≡ Some back.refusal) × (back.placed ≡ placed)
 
 -- A call comes to this result, with these tables after it, by what a zone that it leads to and one that it leaves stand for.
 abbrev pub ComesTo : {Z Y : Type 0} → (Z → Tables → State) → (Y → Tables → State) → Meaning → State → Call → Tables → Result Z (Refused Y) → Type 0

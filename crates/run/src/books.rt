@@ -5,9 +5,10 @@ ghost use Rattle.book.specs.Life.{empty_state};
 ghost use Rattle.book.specs.Passing.{tables};
 ghost use Rattle.book.specs.Runs.{lived};
 ghost use Rattle.run.specs.Taking.{call_of, steps_for, refusal_to};
-ghost use Rattle.run.specs.Zones.{state_of, answered_as};
+ghost use Rattle.run.specs.Zones.{state_of, AnsweredAs};
 
 use crate::ledger::{Ledger, STRIP_PLACES};
+use crate::notice::RefusedEvent;
 use crate::run::{REGISTER_PLACES, ROLL_PLACES};
 use crate::zone::Zone;
 use book::entries::{RegisterEntry, RollEntry};
@@ -15,8 +16,7 @@ use book::lines::Line;
 use book::prepared::PreparedZone;
 use book::refused::Refused;
 use book::zone::Figures;
-use event_file::event::Event;
-use refusal::Refusal;
+use event_file::event::PlacedEvent;
 use std::mem;
 use tariff::tariff::Tariff;
 
@@ -56,13 +56,19 @@ impl Books {
     }
 
     // Takes an event, with its levy shared out, or refuses it and stays as it was.
-    pub(crate) fn take<T: Tariff>(&mut self, sheet: &T, event: Event<'_>) -> Result<(), Refusal>
-        ensures answer { result ≡ answered_as (refusal_to (T.meaning sheet.now) (state_of self.old) (call_of (shown_event event.entry))) }
-        ensures after { state_of self.new ≡ lived (T.meaning sheet.now) (state_of self.old) (steps_for (call_of (shown_event event.entry))) }
+    pub(crate) fn take<'a, T: Tariff>(
+        &mut self,
+        sheet: &T,
+        placed: PlacedEvent<'a>,
+    ) -> Result<(), RefusedEvent<'a>>
+        ensures answer { let call = call_of (shown_event placed.entry.event) in
+            AnsweredAs placed.entry (refusal_to (T.meaning sheet.now) (state_of self.old) call) result }
+        ensures after { let call = call_of (shown_event placed.entry.event) in
+            state_of self.new ≡ lived (T.meaning sheet.now) (state_of self.old) (steps_for call) }
     {
         // An empty zone stands in its place while the zone is moved through the call.
         let before = mem::replace(&mut self.zone, Zone::Prepared(PreparedZone::new()));
-        match self.ledger.taken(before, sheet, event) {
+        match self.ledger.taken(before, sheet, placed.event) {
             Ok(after) => {
                 self.zone = after;
                 Ok(())
@@ -70,7 +76,7 @@ impl Books {
             Err(back) => {
                 let Refused { refusal, kept } = back;
                 self.zone = kept;
-                Err(refusal)
+                Err(RefusedEvent { refusal, placed })
             }
         }
     }

@@ -1,7 +1,7 @@
 // A file read from its first entry to its last, through the books.
 ghost use Rattle.std.specs.Prelude.{◌≡◌, IfOk, OnOk, map};
 ghost use Rattle.book.specs.Runs.{lived};
-ghost use Rattle.run.specs.Telling.{file_tells};
+ghost use Rattle.event_file.specs.Telling.{file_tells};
 ghost use Rattle.run.specs.Reports.{notices as notices_of, steps_told};
 ghost use Rattle.run.specs.Steps.{shown_notice};
 ghost use Rattle.run.specs.Zones.{state_of};

@@ -12,7 +12,7 @@ use crate::zone::Zone;
 use book::launched::LaunchedZone;
 use book::prepared::PreparedZone;
 use book::refused::Refused;
-use event_file::event::Event;
+use event_file::event::FileEvent;
 use refusal::Refusal;
 use tariff::tariff::Tariff;
 
@@ -33,7 +33,7 @@ impl Ledger {
         &mut self,
         zone: Zone,
         sheet: &T,
-        event: Event<'_>,
+        event: FileEvent<'_>,
     ) -> Result<Zone, Refused<Zone>>
         ensures answer { ComesTo state_in state_in (T.meaning sheet.now) (state_in zone (tables_of self.old)) (call_of (shown_event event.entry)) (tables_of self.new) result }
     {
@@ -58,13 +58,13 @@ impl Ledger {
     fn taken_before_launch(
         &mut self,
         zone: PreparedZone,
-        event: Event<'_>,
+        event: FileEvent<'_>,
     ) -> Result<Zone, Refused<PreparedZone>>
         ensures answer { (m : Meaning) → ComesTo state_in prepared m (prepared zone (tables_of self.old)) (call_of (shown_event event.entry)) (tables_of self.new) result }
     {
         let (roll, register) = (&mut self.roll, &self.register);
         match event {
-            Event::Commitment {
+            FileEvent::Commitment {
                 date,
                 operator,
                 rate,
@@ -73,7 +73,7 @@ impl Ledger {
                 let after = zone.commitment(roll, register, date, operator, rate)?;
                 Ok(Zone::Prepared(after))
             }
-            Event::Raise {
+            FileEvent::Raise {
                 date,
                 operator,
                 rate,
@@ -82,11 +82,11 @@ impl Ledger {
                 let raised = zone.raise(roll, register, date, operator, rate)?;
                 Ok(Zone::Prepared(raised))
             }
-            Event::Launch { date, .. } => {
+            FileEvent::Launch { date, .. } => {
                 let launched = zone.launch(roll, register, date)?;
                 Ok(Zone::Launched(launched))
             }
-            Event::Opening { .. } | Event::Cabling { .. } => Err(out_of_turn(zone)),
+            FileEvent::Opening { .. } | FileEvent::Cabling { .. } => Err(out_of_turn(zone)),
         }
     }
 
@@ -95,37 +95,37 @@ impl Ledger {
         &mut self,
         zone: LaunchedZone,
         sheet: &T,
-        event: Event<'_>,
+        event: FileEvent<'_>,
     ) -> Result<LaunchedZone, Refused<LaunchedZone>>
         ensures answer { StaysLaunched (T.meaning sheet.now) (launched_on zone (tables_of self.old)) (call_of (shown_event event.entry)) (tables_of self.new) result }
     {
         match event {
-            Event::Commitment {
+            FileEvent::Commitment {
                 date,
                 operator,
                 rate,
                 ..
             } => self.commitment(zone, sheet, date, operator, rate),
-            Event::Raise {
+            FileEvent::Raise {
                 date,
                 operator,
                 rate,
                 ..
             } => self.raise(zone, sheet, date, operator, rate),
-            Event::Opening {
+            FileEvent::Opening {
                 date,
                 object,
                 dwellings,
                 ..
             } => self.opening(zone, sheet, date, object, dwellings),
-            Event::Cabling {
+            FileEvent::Cabling {
                 date,
                 object,
                 dwellings,
                 third_party,
                 ..
             } => self.cabling(zone, sheet, date, object, third_party, dwellings),
-            Event::Launch { .. } => Err(out_of_turn(zone)),
+            FileEvent::Launch { .. } => Err(out_of_turn(zone)),
         }
     }
 }

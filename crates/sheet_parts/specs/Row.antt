@@ -1,28 +1,50 @@
--- The common row of yearly coefficients, and the coefficient of any number of months by interpolation.
---   row                the coefficient after each whole year from 0 to 20, in hundredths
---   coefficient_after  the coefficient after a number of months, over 1,200
-use Rattle.std.specs.Prelude.{ℕ, ◌+◌, ◌-◌, ◌*◌, ◌/◌, ◌%◌, ◌<◌, ◌≤◌, min, max, cond, List, [], ◌∷◌, nat_lt, slice_index}
+-- A row of yearly coefficients, and the coefficient of any number of months by interpolation.
+--   common_row         the row that sheets have in common
+--   coefficient_after  the coefficient after a number of months, if there is one
+use Rattle.std.specs.Prelude.{ℕ, ◌+◌, ◌-◌, ◌*◌, ◌/◌, ◌%◌, ◌<◌, ◌≤◌, min, max, cond, [], ◌∷◌, Some, Option, IsSomeAnd, nat_le, slice_index}
+use Rattle.calendar.specs.Days.{months_between}
 use Rattle.tariff.specs.declared.kinds.Coefficient.{Coefficient}
+use Rattle.sheet_parts.specs.declared.row.Row.{Row}
 
-abbrev pub row : List ℕ
-row = 100 ∷ 110 ∷ 118 ∷ 125 ∷ 127 ∷ 128 ∷ 127 ∷ 125 ∷ 122 ∷ 118 ∷ 112 ∷ 106 ∷ 98 ∷ 90 ∷ 81 ∷ 70 ∷ 59 ∷ 46 ∷ 32 ∷ 25 ∷ 25 ∷ []
+-- A row has a year every twelve months, up to 240.
+abbrev pub last_month : ℕ
+last_month = 240
 
-abbrev pub after_years : ℕ → ℕ
-after_years x = slice_index row x
+-- A coefficient in 1,200ths: twelve months of hundredths.
+abbrev pub in_1200ths : ℕ → Coefficient
+in_1200ths n = record { numerator = n; denominator = 1200 }
+
+-- The coefficient after x whole years, in hundredths.
+abbrev pub year_of : Row → ℕ → ℕ
+year_of row x = slice_index row.years x
 
 -- After x years and y months, 12−y parts of the year x and y parts of the year after it, in 1,200ths.
-abbrev pub interpolated : ℕ → ℕ → ℕ
-interpolated x y = (12 - y) * after_years x + y * after_years (x + 1)
+abbrev pub interpolated : Row → ℕ → ℕ → ℕ
+interpolated row x y = (12 - y) * year_of row x + y * year_of row (x + 1)
 
--- From 240 months on it stays at 300/1,200.
-unfoldable pub coefficient_after : ℕ → Coefficient
-coefficient_after m = record { numerator = cond (nat_lt m 240) (interpolated (m / 12) (m % 12)) 300; denominator = 1200 }
+-- Up to the last year straight between two years; beyond it, what the row says.
+unfoldable pub coefficient_after : Row → ℕ → Option Coefficient
+coefficient_after row m =
+    cond (nat_le m last_month) (Some (in_1200ths (interpolated row (m / 12) (m % 12)))) row.beyond
+
+-- The coefficient of an object by the months between its installation and the receipt.
+abbrev pub by_row : Row → ℕ → ℕ → Option Coefficient
+by_row row installed receipt = coefficient_after row (months_between installed receipt)
+
+-- The common row stays at 300/1,200 from 240 months on.
+abbrev pub common_row : Row
+common_row = record {
+  years = 100 ∷ 110 ∷ 118 ∷ 125 ∷ 127 ∷ 128 ∷ 127 ∷ 125 ∷ 122 ∷ 118 ∷ 112 ∷ 106 ∷ 98 ∷ 90 ∷ 81 ∷ 70 ∷ 59 ∷ 46 ∷ 32 ∷ 25 ∷ 25 ∷ [];
+  beyond = Some (in_1200ths 300);
+}
 
 -- Between two numbers, whichever is the larger.
 pub record Between (a n b : ℕ) : Type 0 where
   pub low : min a b ≤ n
   pub high : n ≤ max a b
 
--- The coefficient of a month lies between those of the years before and after it, a hundredth being 12 parts in 1,200.
-abbrev pub BetweenItsYears : ℕ → Coefficient → Type 0
-BetweenItsYears m c = m < 240 → Between (12 * after_years (m / 12)) c.numerator (12 * after_years (m / 12 + 1))
+-- Before the last year there is a coefficient. It lies between those of the years before and after it, a hundredth being
+-- 12 parts in 1,200.
+abbrev pub BetweenItsYears : Row → ℕ → Option Coefficient → Type 0
+BetweenItsYears row m answer =
+    m < last_month → IsSomeAnd answer (λ c. Between (12 * year_of row (m / 12)) c.numerator (12 * year_of row (m / 12 + 1)))

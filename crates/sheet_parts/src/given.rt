@@ -4,18 +4,9 @@ ghost use Rattle.sheet_parts.specs.Given.{price_of, price_fits, prices_in_limits
 
 use series::Limited;
 use tariff::kinds::Kind;
-use tariff::tariff::YEAR_INDICES;
+use tariff::tariff::{MOST_PRICE, MOST_WEIGHT, WHOLE, YEAR_INDICES};
 
-// The dearest price per tranche and dwelling, in micro-euros.
-const MOST_PRICE: u32 = 500_000_000;
-
-// The whole of a price, in hundredths.
-const WHOLE: u32 = 100;
-
-// What a tranche weighs at most.
-const MOST_WEIGHT: u32 = 200;
-
-// The price per tranche and dwelling of each kind, in micro-euros.
+/// The price per tranche and dwelling of each kind, in micro-euros.
 #[derive(Clone, Copy, PartialEq, Eq, Debug)]
 pub struct Prices {
     pub covered: u32,
@@ -23,21 +14,16 @@ pub struct Prices {
     pub third: u32,
 }
 
-// The contribution in hundredths of the price, and the weight of a tranche by the year index of its subscription.
-#[derive(Clone, Copy)]
+/// What every sheet is given: the contribution in hundredths of the price, and the weight of a tranche by the year index
+/// of its subscription.
+#[derive(Clone, Copy, PartialEq, Eq, Debug)]
 pub struct Terms {
     pub contribution: u32,
     pub weights: [u32; YEAR_INDICES],
 }
 
 impl Terms {
-    // No contribution, and tranches that weigh nothing.
-    pub const NONE: Terms = Terms {
-        contribution: 0,
-        weights: [0; YEAR_INDICES],
-    };
-
-    // The weight of a tranche of a year index; beyond the last index there is none.
+    /// The weight of a tranche of a year index; beyond the last index there is none.
     pub fn weight(&self, index: u32) -> u32
         ensures value { result ≡ slice_index self.now.weights index }
     {
@@ -46,7 +32,7 @@ impl Terms {
 }
 
 impl Prices {
-    // The price of a kind.
+    /// The price of a kind, in micro-euros.
     pub const fn of(&self, kind: Kind) -> u32
         ensures value { result ≡ price_of self.now kind }
     {

@@ -1,4 +1,4 @@
-// What price sheets are made of: the common row, both roundings, and what a sheet is given.
+// What price sheets are made of: a row, both roundings, and what a sheet is given.
 #![tactic(auto)]
 
 pub mod given;

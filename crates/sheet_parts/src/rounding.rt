@@ -16,7 +16,7 @@ fn seventh_decimal(amount: Quotient) -> u64
 // The next whole number from a seventh decimal on, else the last one.
 fn up_from(least: u64, amount: Quotient) -> u64
     requires { 0 < least }
-    ensures value { result ≡ up_if (λ decimal. nat_le least decimal) amount.numerator amount.denominator }
+    ensures value { result ≡ up_if (nat_le least) amount.numerator amount.denominator }
     ensures near { Near amount.numerator amount.denominator result }
 {
     let whole = amount.numerator / u64::from(amount.denominator);
@@ -27,7 +27,7 @@ fn up_from(least: u64, amount: Quotient) -> u64
     }
 }
 
-// Up only if the seventh decimal exceeds 5, whatever follows it.
+/// Up only if the seventh decimal exceeds 5, whatever follows it.
 pub fn rounded_five_down(amount: Quotient) -> u64
     ensures value { result ≡ five_down amount.numerator amount.denominator }
     ensures near { Near amount.numerator amount.denominator result }
@@ -35,7 +35,7 @@ pub fn rounded_five_down(amount: Quotient) -> u64
     up_from(6, amount)
 }
 
-// Up if the seventh decimal is 5 or more.
+/// Up if the seventh decimal is 5 or more.
 pub fn rounded_five_up(amount: Quotient) -> u64
     ensures value { result ≡ five_up amount.numerator amount.denominator }
     ensures near { Near amount.numerator amount.denominator result }

@@ -6,11 +6,14 @@ use Rattle.series.specs.Lookups.{in_force_on}
 use Rattle.series.specs.Lent.{rows_of}
 use Rattle.series.specs.Found.{Keeps, kept_found}
 use Rattle.tariff.specs.Meaning.{Answered, PriceLimits, Lawful}
+use Rattle.sheet_parts.specs.Rounding.{five_up}
 use Rattle.sheet_parts.specs.Nearness.{near_five_up}
-use Rattle.sheet_parts.specs.RowLimits.{after_limits}
+use Rattle.sheet_parts.specs.Row.{common_row, by_row}
+use Rattle.sheet_parts.specs.RowLimits.{common_limits}
 use Rattle.sheet_parts.specs.Given.{price_of, prices_in_limits}
-use Rattle.sheet_parts.specs.GivenLimits.{prices_limits, contribution_limit, weight_limit}
-use Rattle.sheets.specs.DatedSheets.{dated_meaning}
+use Rattle.sheet_parts.specs.GivenLimits.{prices_limits}
+use Rattle.sheet_parts.specs.SheetLimits.{sheet_lawful}
+use Rattle.sheets.specs.DatedSheets.{recorded, dated_meaning}
 use Rattle.tariff.specs.declared.kinds.Kind.{Kind}
 use Rattle.sheet_parts.specs.declared.given.Prices.{Prices}
 use Rattle.sheets.specs.declared.dated.DatedSheet.{DatedSheet}
@@ -20,12 +23,12 @@ found_limits None kind fits = tt
 found_limits (Some p) kind fits = prices_limits p kind fits
 
 pub dated_lawful : (sheet : DatedSheet) → Lawful (dated_meaning sheet)
-dated_lawful sheet = record {
-  prices = λ kind installed _.
-      let records = rows_of sheet.prices in
-      found_limits (in_force_on records installed) kind (kept_found prices_in_limits (λ date. nat_le date installed) records sheet.prices_fit);
-  coefficients = λ installed receipt _ _. after_limits (months_between installed receipt);
-  contributions = contribution_limit sheet.terms sheet.terms_fit;
-  weights = λ index _. weight_limit sheet.terms sheet.terms_fit index;
-  near = λ n d _ some _. near_five_up n d some;
-}
+dated_lawful sheet =
+    let records = rows_of sheet.prices in
+    sheet_lawful (recorded records) (by_row common_row) five_up sheet.terms (record {
+      prices = λ kind installed.
+          found_limits (in_force_on records installed) kind (kept_found prices_in_limits (λ date. nat_le date installed) records sheet.prices_fit);
+      coefficients = λ installed receipt. common_limits (months_between installed receipt);
+      near = near_five_up;
+      given = sheet.terms_fit;
+    })

@@ -3,12 +3,12 @@
 --   consumer_ratio       consumer prices now against then
 --   smaller              the smaller of two fractions, the first where they are equal
 --   indexed_coefficient  the whole, none where an index number is absent or the product passes the tariff's limits
-use Rattle.std.specs.Prelude.{ℕ, ◌+◌, ◌*◌, ◌<◌, ◌≤◌, Bool, cond, ◌&&◌, List, Some, None, Option, nat_le}
-use Rattle.calendar.specs.Days.{within, months_between}
+use Rattle.std.specs.Prelude.{ℕ, ◌+◌, ◌*◌, ◌<◌, ◌≤◌, cond, List, Some, None, Option, nat_le}
 use Rattle.series.specs.Lookups.{in_force_before}
 use Rattle.series.specs.declared.rows.Dated.{Dated}
 use Rattle.series.specs.declared.limits.IndexNumber.{IndexNumber}
-use Rattle.sheet_parts.specs.Row.{coefficient_after}
+use Rattle.sheet_parts.specs.Row.{common_row, by_row}
+use Rattle.sheet_parts.specs.RowLimits.{coefficient_fits}
 use Rattle.tariff.specs.declared.kinds.Coefficient.{Coefficient}
 
 abbrev pub wage_ratio : IndexNumber → IndexNumber → Coefficient
@@ -25,27 +25,28 @@ smaller a b = cond (nat_le (a.numerator * b.denominator) (b.numerator * a.denomi
 abbrev pub times : Coefficient → Coefficient → Coefficient
 times a b = record { numerator = a.numerator * b.numerator; denominator = a.denominator * b.denominator }
 
--- The tariff's limits on a coefficient, as a test.
-abbrev pub coefficient_fits : Coefficient → Bool
-coefficient_fits c = within 1 c.denominator 240000000 && (nat_le c.numerator 480000000 && nat_le c.numerator (4 * c.denominator))
-
 -- A fraction outside the tariff's limits is no coefficient.
 abbrev pub if_fits : Coefficient → Option Coefficient
 if_fits c = cond (coefficient_fits c) (Some c) None
 
+-- The row's coefficient times a ratio; none where the row has none.
+abbrev pub row_times : Option Coefficient → Coefficient → Option Coefficient
+row_times None ratio = None
+row_times (Some row) ratio = if_fits (times row ratio)
+
 -- The row's coefficient times the smaller ratio; none where an index number is absent.
-abbrev pub indexed_by : Coefficient → Option IndexNumber → Option IndexNumber → Option IndexNumber → Option IndexNumber → Option Coefficient
+abbrev pub indexed_by : Option Coefficient → Option IndexNumber → Option IndexNumber → Option IndexNumber → Option IndexNumber → Option Coefficient
 indexed_by row None wages_now consumer_then consumer_now = None
 indexed_by row (Some wages_then) None consumer_then consumer_now = None
 indexed_by row (Some wages_then) (Some wages_now) None consumer_now = None
 indexed_by row (Some wages_then) (Some wages_now) (Some consumer_then) None = None
 indexed_by row (Some wages_then) (Some wages_now) (Some consumer_then) (Some consumer_now) =
-    if_fits (times row (smaller (wage_ratio wages_then wages_now) (consumer_ratio consumer_then consumer_now)))
+    row_times row (smaller (wage_ratio wages_then wages_now) (consumer_ratio consumer_then consumer_now))
 
 -- Then and now are the index numbers in force before the installation and before the receipt.
 abbrev pub indexed_coefficient : List (Dated IndexNumber) → List (Dated IndexNumber) → ℕ → ℕ → Option Coefficient
 indexed_coefficient wages consumer installed receipt =
-    indexed_by (coefficient_after (months_between installed receipt))
+    indexed_by (by_row common_row installed receipt)
     (in_force_before wages installed) (in_force_before wages receipt)
     (in_force_before consumer installed) (in_force_before consumer receipt)
 

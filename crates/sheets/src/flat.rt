@@ -1,51 +1,41 @@
-// The flat sheet: three prices, the same on every date; how it is filled, and what it answers.
-ghost use Rattle.std.specs.Prelude.{◌≡◌, ◌&&◌, T, Some, None, MatchResult};
-ghost use Rattle.sheet_parts.specs.Given.{fit_if_given, prices_in_limits, terms_in_limits, no_terms, making};
+// The flat sheet: three prices, the same on every date; how a place for it is filled, and what it answers.
+ghost use Rattle.std.specs.Prelude.{◌≡◌, ◌&&◌, true, IsSomeAnd, OnOk, OnErr};
+ghost use Rattle.sheet_parts.specs.Given.{prices_in_limits, terms_in_limits, making};
 
 use calendar::months_between;
 use refusal::Refusal;
 use series::Limited;
 use sheet_parts::given::{Prices, Terms};
 use sheet_parts::rounding::rounded_five_down;
-use sheet_parts::row::coefficient_after;
+use sheet_parts::row::Row;
 use tariff::kinds::{Coefficient, Kind};
 use tariff::quotient::Quotient;
 use tariff::tariff::Tariff;
 
-// Its prices are none until it is filled.
-#[derive(Clone, Copy)]
+/// A sheet of three prices, on the common row, rounding five-down.
+#[derive(Clone, Copy, PartialEq, Eq, Debug)]
 pub struct FlatSheet {
-    prices: Option<Prices>,
+    prices: Prices,
     terms: Terms,
-    ghost prices_fit: { T (fit_if_given prices) },
-    ghost terms_fit: { T (terms_in_limits terms) },
+    ghost prices_fit: { prices_in_limits prices ≡ true },
+    ghost terms_fit: { terms_in_limits terms ≡ true },
 }
 
 impl FlatSheet {
     ghost use Rattle.sheets.specs.Flat.{flat, flat_meaning};
 
-    // A place for a sheet: until it is filled it has no price, levies no contribution and weighs nothing.
-    pub const fn empty() -> FlatSheet
-        ensures value { flat_meaning result ≡ flat None no_terms }
-    {
-        FlatSheet {
-            prices: None,
-            terms: Terms::NONE,
-        }
-    }
-
-    // Fills the sheet with prices and terms, or refuses them and leaves it as it was.
-    pub fn fill(&mut self, prices: Prices, terms: Terms) -> Result<(), Refusal>
+    /// Fills a place with the sheet of some prices and terms. Where either is outside its limits it is refused by 25, and
+    /// the place keeps what it held.
+    pub fn fill(place: &mut Option<FlatSheet>, prices: Prices, terms: Terms) -> Result<(), Refusal>
         ensures answer { result ≡ making (prices_in_limits prices && terms_in_limits terms) }
-        ensures after { MatchResult result (λ _. flat_meaning self.new ≡ flat (Some prices) terms) (λ _. self.new ≡ self.old) }
+        ensures value { let meaning = flat prices terms in
+            OnOk result (IsSomeAnd place.new (λ sheet. flat_meaning sheet ≡ meaning)) }
+        ensures kept { OnErr result (place.new ≡ place.old) }
     {
         if !prices.in_limits() || !terms.in_limits() {
             return Err(Refusal::BadSheet);
         }
-        *self = FlatSheet {
-            prices: Some(prices),
-            terms,
-        };
+        *place = Some(FlatSheet { prices, terms });
         Ok(())
     }
 }
@@ -59,14 +49,11 @@ impl Tariff for FlatSheet {
     ghost lawful = { flat_lawful };
 
     fn price(&self, kind: Kind, _installed: u32) -> Option<u32> {
-        let Some(prices) = self.prices else {
-            return None;
-        };
-        Some(prices.of(kind))
+        Some(self.prices.of(kind))
     }
 
     fn coefficient(&self, installed: u32, receipt: u32) -> Option<Coefficient> {
-        Some(coefficient_after(months_between(installed, receipt)))
+        Row::COMMON.coefficient_after(months_between(installed, receipt))
     }
 
     fn contribution(&self) -> u32 {

@@ -4,9 +4,6 @@
 #![tactic(auto)]
 
 pub mod dated;
-pub mod dated_answers;
 pub mod flat;
 pub mod indexed;
-pub mod indexed_answers;
-mod indexing;
 pub mod network;

@@ -51,7 +51,7 @@ const RECORDS: [Dated<Prices>; 5] = [
     },
 ];
 
-// The records, which make a series.
+/// The network's price records, which make a series.
 pub fn network_records() -> &'static [Dated<Prices>]
     ensures value { result.now ≡ network_records }
     ensures sound { sound prices_in_limits result.now ≡ true }

@@ -8,11 +8,12 @@ use Rattle.refusal.specs.Checks.{first, unless, ◌⇒◌}
 use Rattle.refusal.specs.declared.Refusal.TheVariants.{BadFileLength}
 use Rattle.tariff.specs.Meaning.{Meaning}
 use Rattle.event_file.specs.Blocks.{file_blocks}
+use Rattle.event_file.specs.Reading.{file_read, opened_read}
+use Rattle.event_file.specs.Telling.{Telling, left_to_tell, file_tells}
 use Rattle.book.specs.Life.{empty_state}
 use Rattle.book.specs.Runs.{lived}
 use Rattle.book.specs.Zone.{Tables}
 use Rattle.run.specs.Reports.{notices, steps_told}
-use Rattle.run.specs.Telling.{Telling, file_tells, opened_tells}
 use Rattle.stating.specs.Statements.{statement_at, statement_of}
 
 refused_length : (n : ℕ) → 65536 < n → file_blocks n ≡ Err BadFileLength
@@ -20,8 +21,8 @@ refused_length n long =
     ap (λ b. unless {A = ℕ} (first ((b ⇒ BadFileLength) ∷ [])) (n / 512)) (ap (λ b. not (eqb (n % 512) 0) || b) (lt-ltb 65536 n long) ∙ or-true (not (eqb (n % 512) 0)))
 
 -- What such a file tells is that it is refused.
-tells_alike : (bs cs : List ℕ) → 65536 < length bs → 65536 < length cs → file_tells bs ≡ file_tells cs
-tells_alike bs cs long longer = ap (opened_tells bs) (refused_length (length bs) long) ∙ ap (opened_tells cs) (sym (refused_length (length cs) longer))
+reads_alike : (bs cs : List ℕ) → 65536 < length bs → 65536 < length cs → file_read bs ≡ file_read cs
+reads_alike bs cs long longer = ap (opened_read bs) (refused_length (length bs) long) ∙ ap (opened_read cs) (sym (refused_length (length cs) longer))
 
 cut_tells : (bs : List ℕ) → file_tells (take 65537 bs) ≡ file_tells bs
 cut_tells bs = go (ltb 65536 (length bs)) refl where
@@ -29,7 +30,7 @@ cut_tells bs = go (ltb 65536 (length bs)) refl where
   go true is =
       let long = ltb-true 65536 (length bs) is in
       let cut = length-take-le 65537 bs (omega (arith, long)) in
-      tells_alike (take 65537 bs) bs (omega (arith, cut)) long
+      ap left_to_tell (reads_alike (take 65537 bs) bs (omega (arith, cut)) long)
   go false is = ap file_tells (take_all 65537 bs (omega (arith, ltb-false 65536 (length bs) is)))
 
 pub cut_states : (m : Meaning) (t : Tables) (bs : List ℕ) → statement_of m t (take 65537 bs) ≡ statement_of m t bs

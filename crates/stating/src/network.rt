@@ -24,11 +24,12 @@ const TERMS: Terms = Terms {
 fn network_sheet() -> DatedSheet<'static>
     ensures meaning { dated_meaning result ≡ network_sheet }
 {
-    let mut sheet = DatedSheet::empty();
-    match sheet.fill(network_records(), TERMS) {
-        Ok(()) => sheet,
-        Err(_refusal) => unreachable(),
-    }
+    let mut place = None;
+    let filled = DatedSheet::fill(&mut place, network_records(), TERMS);
+    let (Ok(()), Some(sheet)) = (filled, place) else {
+        unreachable!()
+    };
+    sheet
 }
 
 // Runs a file through an empty zone and states what came of it. Of an input that is too long the first bytes say so, one

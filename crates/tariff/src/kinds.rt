@@ -1,15 +1,17 @@
 // What a sheet is asked about, and the fraction that it answers.
 
-// How a dwelling is reached: covered by a PM (the cabinet where operators connect), connectable through
-// a site's cabling, or connectable where a third party cabled the building.
+/// How a dwelling is reached.
 #[derive(Clone, Copy, PartialEq, Eq, Debug)]
 pub enum Kind {
+    /// Covered by a PM, the cabinet where operators connect.
     Covered,
+    /// Connectable through a site's cabling.
     Connectable,
+    /// Connectable where a third party cabled the building.
     ThirdParty,
 }
 
-// An unreduced fraction by which a price is multiplied.
+/// An unreduced fraction by which a price is multiplied.
 #[derive(Clone, Copy, PartialEq, Eq, Debug)]
 pub struct Coefficient {
     pub numerator: u32,

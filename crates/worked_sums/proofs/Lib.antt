@@ -1,1 +1,4 @@
+pub mod Lawful
+pub mod Working
+pub mod Witnessing
 pub mod Sums

@@ -1,1 +1,6 @@
+pub mod Sheets
+pub mod Cases
+pub mod RefusalOrder
+pub mod OtherTables
+pub mod Witnesses
 pub mod Sums

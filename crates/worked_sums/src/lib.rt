@@ -1,32 +1,45 @@
-// The sums worked by hand: one theorem over the definitions, and the code run on the same examples.
+// The sums worked by hand: theorems over the definitions, the code run on the same examples, and
+// lives that the laws of a zone speak of.
 #![tactic(auto)]
 
-ghost use Rattle.std.specs.Prelude.{◌≡◌, [], ◌∷◌};
+ghost use Rattle.std.specs.Prelude.{◌≡◌, [], ◌∷◌, map, Some};
+ghost use Rattle.sheet_parts.specs.Row.{in_1200ths};
 ghost use Rattle.worked_sums.specs.Sums.{WorkedSums};
 
-use calendar::year_index;
-use sheet_parts::row::coefficient_after;
+pub mod examples;
+pub mod witnesses;
 
-// The coefficients of some months, over 1,200, and the year indices of two dates after a launch on 20170315.
+use calendar::year_index;
+use sheet_parts::row::Row;
+use tariff::kinds::Coefficient;
+
+/// The coefficients of the common row after some months, and the year indices of two dates after a
+/// launch on 20170315.
 #[derive(Clone, Copy)]
 pub struct Worked {
-    pub coefficients: [u32; 5],
+    /// After 0, 3, 18, 65 and 239 months.
+    pub coefficients: [Option<Coefficient>; 5],
+    /// Of the day after the launch, and of the next year's first day.
     pub indices: [u32; 2],
 }
 
-// The code's answers to the worked examples, with the theorem that the definitions give the sums worked by hand.
+/// The code's answers to the worked examples, with the theorem that the definitions give the sums
+/// worked by hand.
 pub fn worked_examples() -> Worked
     ensures sums { WorkedSums }
-    ensures coefficients { result.coefficients ≡ 1200 ∷ 1230 ∷ 1368 ∷ 1531 ∷ 300 ∷ [] }
+    ensures coefficients {
+        let worked = 1200 ∷ 1230 ∷ 1368 ∷ 1531 ∷ 300 ∷ [] in
+        result.coefficients ≡ map (λ n. Some (in_1200ths n)) worked
+    }
     ensures indices { result.indices ≡ 1 ∷ 2 ∷ [] }
 {
     Worked {
         coefficients: [
-            coefficient_after(0).numerator,
-            coefficient_after(3).numerator,
-            coefficient_after(18).numerator,
-            coefficient_after(65).numerator,
-            coefficient_after(239).numerator,
+            Row::COMMON.coefficient_after(0),
+            Row::COMMON.coefficient_after(3),
+            Row::COMMON.coefficient_after(18),
+            Row::COMMON.coefficient_after(65),
+            Row::COMMON.coefficient_after(239),
         ],
         indices: [
             year_index(20170315, 20170316),

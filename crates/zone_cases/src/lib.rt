@@ -31,14 +31,13 @@ mod tests {
             connectable: 18_770_000,
             third: 16_200_000,
         };
-        let mut sheet = FlatSheet::empty();
-        sheet.fill(
-            prices,
-            Terms {
-                contribution: 15,
-                weights,
-            },
-        )?;
+        let terms = Terms {
+            contribution: 15,
+            weights,
+        };
+        let mut place = None;
+        FlatSheet::fill(&mut place, prices, terms)?;
+        let Some(sheet) = place else { unreachable!() };
         Ok(sheet)
     }
 

@@ -117,5 +117,10 @@ returns g c =
           let members = length-map c.args.roll.now member_of in
           let few : length (members_of c.args.roll.now) ≤ 16 = omega (arith, members, c.requires.operators) in
           let product : length (members_of c.args.roll.now) * length c.args.objects.items.now ≤ 16 * 1024 = mul-le-mul few c.args.objects.few in
-          (omega (arith, given, c.args.objects.few), omega (arith, sum, c.args.objects.few), omega (arith, given, c.unshared_of.ensures.most, c.args.objects.few), omega (arith, number, count, product));
+          record {
+            contributed = omega (arith, given, c.args.objects.few);
+            credited = omega (arith, sum, c.args.objects.few);
+            unshared = omega (arith, given, c.unshared_of.ensures.most, c.args.objects.few);
+            credit_lines = omega (arith, number, count, product);
+          };
     }

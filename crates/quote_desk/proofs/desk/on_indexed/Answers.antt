@@ -12,5 +12,6 @@ returns c =
     let consumer = c.args.consumer.now in
     let enquiry = c.args.enquiry.now in
     let fits = (prices_in_limits desk_prices && terms_in_limits desk_terms) && (sound index_fits wages && sound index_fits consumer) in
-    let asked = c.price_of.ensures.value ∙ ap (λ m. priced m enquiry) c.in_ok-fill.ensures.after in
+    let filled = rw c.in-Some.is at c.in_ok-fill.ensures.value in
+    let asked = c.price_of.ensures.value ∙ ap (λ m. priced m enquiry) filled in
     record { value = asked ∙ made_of (making fits) _ _ c.in_ok-fill.ensures.answer }

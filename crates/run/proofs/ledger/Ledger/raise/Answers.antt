@@ -1,7 +1,7 @@
-use Rattle.std.proofs.Common.{refl, arith}
+use Rattle.std.proofs.Common.{sym, arith}
 use Rattle.book.specs.Calls.{raise, raise_event}
 use Rattle.run.specs.Zones.{tables_of}
-use Rattle.run.proofs.Leading.{shared_out}
+use Rattle.run.proofs.Leading.{only_answer, shared_out}
 use Rattle.run.proofs.ledger.Ledger.raise.Goals as goal
 
 pub share_out-requires : goal.share_out-requires
@@ -11,11 +11,11 @@ share_out-requires g c = record {
   event = raise_event c.args.date c.args.operator c.args.rate;
   places = _;
   lines = _;
-  answer = c.in_ok-levy.ensures.answer;
+  answer = sym (only_answer _ _ c.in_ok-levy.ensures.call.given);
 }
 
 pub returns : goal.returns
 returns g c = record {
   answer = shared_out (g.T.Tariff.meaning c.args.sheet.now) c.args.zone (tables_of c.args.self.now) (raise c.args.date c.args.operator c.args.rate)
-      (raise_event c.args.date c.args.operator c.args.rate) c.in_ok-levy.field-0.zone _ _ _ refl (omega arith) c.in_ok-levy.ensures.answer c.share_out.ensures.shared;
+      c.in_ok-levy.field-0.zone _ _ _ (omega arith) c.in_ok-levy.ensures.call.given c.share_out.ensures.shared;
 }

@@ -1,5 +1,0 @@
-use Rattle.book.proofs.Working.{amounts_worked, refusals_in_order, tables_limited}
-use Rattle.book.proofs.examples.cases_work.Goals as goal
-
-pub returns : goal.returns
-returns c = record { value = amounts_worked; refusal = refusals_in_order; tables = tables_limited }

@@ -1,0 +1,15 @@
+-- What a sheet answers: by its prices, its coefficients, its rounding, and the terms that it is given.
+use Rattle.std.specs.Prelude.{ℕ, Option, slice_index}
+use Rattle.tariff.specs.Meaning.{Meaning}
+use Rattle.tariff.specs.declared.kinds.Kind.{Kind}
+use Rattle.tariff.specs.declared.kinds.Coefficient.{Coefficient}
+use Rattle.sheet_parts.specs.declared.given.Terms.{Terms}
+
+abbrev pub sheet_of : (Kind → ℕ → Option ℕ) → (ℕ → ℕ → Option Coefficient) → (ℕ → ℕ → ℕ) → Terms → Meaning
+sheet_of price coefficient rounded terms = record {
+  price = price;
+  coefficient = coefficient;
+  contribution = terms.contribution;
+  weight = λ index. slice_index terms.weights index;
+  rounded = rounded;
+}
