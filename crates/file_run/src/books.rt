@@ -40,7 +40,8 @@ impl Books {
             ledger: Ledger {
                 roll,
                 register,
-                strip: [Line::BLANK; STRIP_PLACES],
+                bill: [Line::BLANK; STRIP_PLACES],
+                credits: [Line::BLANK; STRIP_PLACES],
             },
         }
     }

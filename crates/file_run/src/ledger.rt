@@ -22,14 +22,15 @@ use tariff::tariff::Tariff;
 // A share-out among 16 operators for 64 objects has at most as many lines.
 pub(crate) const STRIP_PLACES: usize = 1024;
 
-// The ledger of a run: the two tables of its zone, and the strip that the calls write their lines on. It holds the
-// tables themselves, so that their lengths stand in its type and in no contract. The sheet stays beside it: no call
-// changes that.
+// The ledger of a run: the two tables of its zone, and the strips that its calls write on, one for charges and contributions
+// and one for credits. It holds the tables themselves, so that their lengths stand in its type and in no contract. The
+// sheet stays beside it: no call changes that.
 #[derive(Drop)]
 pub(crate) struct Ledger {
     pub(crate) roll: [RollEntry; ROLL_PLACES],
     pub(crate) register: [RegisterEntry; REGISTER_PLACES],
-    pub(crate) strip: [Line; STRIP_PLACES],
+    pub(crate) bill: [Line; STRIP_PLACES],
+    pub(crate) credits: [Line; STRIP_PLACES],
 }
 
 // A zone that takes no call of a kind is left as it was.
@@ -159,8 +160,8 @@ impl Ledger {
     ) -> Result<LaunchedZone, Refused<LaunchedZone>>
         ensures answer { StaysLaunched (T.meaning sheet.now) (launched_on zone (tables_of self.old)) (call_opening date object dwellings) (tables_of self.new) result }
     {
-        let (roll, register, strip) = (&self.roll, &mut self.register, &mut self.strip);
-        let done = zone.opening(sheet, roll, register, strip, date, object, dwellings)?;
+        let (roll, register, bill) = (&self.roll, &mut self.register, &mut self.bill);
+        let done = zone.opening(sheet, roll, register, bill, date, object, dwellings)?;
         Ok(done.zone)
     }
 
@@ -175,12 +176,12 @@ impl Ledger {
     ) -> Result<LaunchedZone, Refused<LaunchedZone>>
         ensures answer { StaysLaunched (T.meaning sheet.now) (launched_on zone (tables_of self.old)) (call_cabling date object third_party dwellings) (tables_of self.new) result }
     {
-        let (roll, register, strip) = (&self.roll, &mut self.register, &mut self.strip);
+        let (roll, register, bill) = (&self.roll, &mut self.register, &mut self.bill);
         let done = zone.cabling(
             sheet,
             roll,
             register,
-            strip,
+            bill,
             date,
             object,
             third_party,

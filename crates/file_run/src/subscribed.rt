@@ -1,18 +1,16 @@
 // A commitment or raise of a launched zone, with its levy shared out at once.
-ghost use Rattle.std.specs.Prelude.{◌≡◌, [], ◌∷◌};
-ghost use Rattle.book.specs.Calls.{commitment as call_commitment, raise as call_raise, share_out};
-ghost use Rattle.book.specs.Promises.{launched_on, levied_on};
-ghost use Rattle.book.specs.Runs.{◌on◌, lived};
-ghost use Rattle.file_run.specs.Taking.{strip_places};
-ghost use Rattle.file_run.specs.Zones.{tables_of, Billed, StaysLaunched};
+ghost use Rattle.book.specs.Calls.{commitment as call_commitment, raise as call_raise};
+ghost use Rattle.book.specs.Promises.{launched_on};
+ghost use Rattle.at_once.specs.Steps.{call_for};
+ghost use Rattle.file_run.specs.Zones.{tables_of, StaysLaunched};
 
-use crate::ledger::Ledger;
+use crate::ledger::{Ledger, STRIP_PLACES};
+use at_once::settled::bill_and_share_out;
+use book::event::{Change, Event};
 use book::launched::LaunchedZone;
-use book::levy::OpenLevy;
-use book::outcome::{Refused, Written};
+use book::outcome::Refused;
 use tariff::tariff::Tariff;
 
-// The two differ in the call alone: passed in as a closure, it would take as many lines as each has.
 impl Ledger {
     pub(crate) fn commitment<T: Tariff>(
         &mut self,
@@ -24,12 +22,13 @@ impl Ledger {
     ) -> Result<LaunchedZone, Refused<LaunchedZone>>
         ensures answer { StaysLaunched (T.meaning sheet.now) (launched_on zone (tables_of self.old)) (call_commitment date operator rate) (tables_of self.new) result }
     {
-        let (roll, register, strip) = (&self.roll, &self.register, &mut self.strip);
-        let Written {
-            zone: levy,
-            lines: _,
-        } = zone.commitment(sheet, roll, register, strip, date, operator, rate)?;
-        Ok(self.share_out(levy, sheet))
+        let event = Event {
+            change: Change::Commitment,
+            date,
+            operator,
+            rate,
+        };
+        self.settled(zone, sheet, event)
     }
 
     pub(crate) fn raise<T: Tariff>(
@@ -42,22 +41,37 @@ impl Ledger {
     ) -> Result<LaunchedZone, Refused<LaunchedZone>>
         ensures answer { StaysLaunched (T.meaning sheet.now) (launched_on zone (tables_of self.old)) (call_raise date operator rate) (tables_of self.new) result }
     {
-        let (roll, register, strip) = (&self.roll, &self.register, &mut self.strip);
-        let Written {
-            zone: levy,
-            lines: _,
-        } = zone.raise(sheet, roll, register, strip, date, operator, rate)?;
-        Ok(self.share_out(levy, sheet))
+        let event = Event {
+            change: Change::Raise,
+            date,
+            operator,
+            rate,
+        };
+        self.settled(zone, sheet, event)
     }
 
-    // With at most 64 objects and a strip of 1,024 places a share-out is never refused: there are at most 16 operators.
-    fn share_out<T: Tariff>(&mut self, levy: OpenLevy, sheet: &T) -> LaunchedZone
-        requires { Billed (T.meaning sheet.now) (tables_of self.old) levy }
-        ensures shared { launched_on result (tables_of self.new) ≡ lived (T.meaning sheet.now) (levied_on levy (tables_of self.old)) (share_out on strip_places ∷ []) }
+    // With at most 16 operators and 64 objects each line of a share-out has one of 1,024 places.
+    fn settled<T: Tariff>(
+        &mut self,
+        zone: LaunchedZone,
+        sheet: &T,
+        event: Event,
+    ) -> Result<LaunchedZone, Refused<LaunchedZone>>
+        ensures answer { let s = launched_on zone (tables_of self.old) in
+            StaysLaunched (T.meaning sheet.now) s (call_for event) (tables_of self.new) result }
     {
-        match levy.share_out(sheet, &mut self.roll, &self.register, &mut self.strip) {
-            Ok(done) => done.zone,
-            Err(_open) => unreachable(),
-        }
+        let (roll, register) = (&mut self.roll, &self.register);
+        let (bill, credits) = (&mut self.bill, &mut self.credits);
+        let done = bill_and_share_out(
+            zone,
+            sheet,
+            roll,
+            register,
+            bill,
+            credits,
+            STRIP_PLACES,
+            event,
+        )?;
+        Ok(done.zone)
     }
 }

@@ -1,5 +1,6 @@
 // A zone with its tables, and the strips that its calls are lent.
 use crate::instruction::{Call, Places};
+use at_once::settled::{MOST_LINES, Settled, bill_and_share_out};
 use book::entries::{RegisterEntry, RollEntry};
 use book::event::{Change, Event};
 use book::figures::Figures;
@@ -11,7 +12,6 @@ use refusal::Refusal;
 use std::mem;
 use tariff::kinds::Kind;
 use tariff::tariff::Tariff;
-use zone_cases::at_once::{MOST_LINES, Settled, shared};
 
 // One more than a zone can count.
 const ROLL_PLACES: usize = 17;
@@ -189,7 +189,7 @@ impl Ledger {
         let bill = first(strips.bill.as_mut_slice(), self.places.strip);
         let credits = strips.credits.as_mut_slice();
         let share = self.share;
-        shared(zone, sheet, roll, register, bill, credits, share, event)
+        bill_and_share_out(zone, sheet, roll, register, bill, credits, share, event)
     }
 
     // An opening or cabling.
