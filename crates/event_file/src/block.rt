@@ -9,7 +9,7 @@ pub const BLOCK_BYTES: usize = 512;
 
 pub const BLOCK_ENTRIES: usize = 17;
 
-// The longest file: 128 blocks.
+/// The longest file: 128 blocks.
 pub const MOST_BYTES: usize = 65536;
 
 // The bytes of a block that its check covers.
@@ -18,7 +18,7 @@ const CHECKED_BYTES: usize = 510;
 // The largest prime below 65,536.
 const MODULUS: u32 = 65521;
 
-// How many blocks a file of a length has.
+/// How many blocks a file of a length has.
 pub const fn blocks_in(length: usize) -> Result<usize, Refusal>
     ensures answer { result ≡ file_blocks length }
 {
@@ -35,7 +35,7 @@ const fn with_byte(rest: u16, byte: u8) -> u16
     ((rest as u32 * 256 + byte as u32) % MODULUS) as u16
 }
 
-// The bytes as one number to base 256, first byte highest, modulo 65,521.
+/// The bytes as one number to base 256, first byte highest, modulo 65,521.
 pub fn check_of(bytes: &[u8]) -> u16
     ensures value { result ≡ check_of bytes.now }
 {
@@ -57,7 +57,7 @@ fn passes(block: &[u8]) -> bool
     block.len() == BLOCK_BYTES && check_of(&block[0..CHECKED_BYTES]) == written_check(block)
 }
 
-// A block is taken only if it passes its check.
+/// A block is taken only if it passes its check.
 pub fn check_block(block: &[u8]) -> Result<(), Refusal>
     ensures answer { result ≡ block_check block.now }
     ensures change { ChangeIsFound }

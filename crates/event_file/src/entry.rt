@@ -79,7 +79,7 @@ fn all_zero(bytes: &[u8]) -> bool
     bytes.iter().all(|byte| *byte == 0)
 }
 
-// Whether an entry is a blank: thirty bytes, all zero.
+/// Whether an entry is a blank: thirty bytes, all zero.
 pub fn is_blank(bytes: &[u8]) -> bool
     ensures value { result ≡ is_blank bytes.now }
 {
@@ -197,7 +197,7 @@ fn event_in(letter: Letter, rest: &[u8], after_blank: bool) -> Result<FileEvent<
     Ok(fields.event())
 }
 
-// What an entry tells, an event or a blank, where a blank stands before it in its block or not.
+/// What an entry tells, an event or a blank, where a blank stands before it in its block or not.
 pub fn read_entry(bytes: &[u8], after_blank: bool) -> Result<Option<FileEvent<'_>>, Refusal>
     ensures answer { shown_answer result ≡ told after_blank bytes.now }
     ensures back { ReadsBack }

@@ -53,7 +53,8 @@ impl<'a> fmt::Display for Numbers<'a> {
 
     fn fmt<W: fmt::Write>(&self, f: &mut fmt::Formatter<W>) -> fmt::Result {
         match self.0 {
-            FileEvent::Commitment { operator, rate, .. } | FileEvent::Raise { operator, rate, .. } => {
+            FileEvent::Commitment { operator, rate, .. }
+            | FileEvent::Raise { operator, rate, .. } => {
                 write!(f, " operator {operator} rate {rate}")
             }
             FileEvent::Opening {
@@ -110,7 +111,7 @@ impl fmt::Display for Standing {
     }
 }
 
-// The line of an entry or of a refusal.
+/// The line of an entry or of a refusal.
 #[derive(Clone, Copy)]
 pub struct Line<'a>(pub Result<Entry<'a>, Fault>);
 
