@@ -1,4 +1,4 @@
--- Conditions in their order, each with the refusal that it gives: the first that holds is the answer.
+-- Conditions in their order, each with the refusal that it gives: the first that holds answers.
 use Rattle.std.specs.Prelude.{Bool, cond, List, [], ◌∷◌, Some, None, Ok, Err, Option, Result}
 use Rattle.refusal.specs.declared.Refusal.{Refusal}
 
