@@ -1,5 +1,6 @@
 // The laws of a zone's life, each the contract of a function, so that a check without its proof fails.
 ghost use Rattle.std.specs.Prelude.{◌-◌};
+ghost use Rattle.book.specs.Limits.{most_amount, most_after_share_out};
 ghost use Rattle.book.specs.Laws.{EveryLifeAccounted, EveryCutFair};
 ghost use Rattle.book.specs.Grounds.{ShareOutFollows, LinesCounted, EveryLifeFits, EveryShareOutFits, BilledIsEntered};
 ghost use Rattle.refusal.specs.declared.Refusal.TheVariants.{StripTooShort};
@@ -30,8 +31,8 @@ pub const fn share_outs_follow()
 /// No number that a life reaches, on its tables, in its totals or on a line, exceeds the largest amount; and from any
 /// accepted tables a share-out leads to no total or balance beyond 64 bits.
 pub const fn numbers_fit()
-    ensures life { EveryLifeFits 4000000000000000000 }
-    ensures tables { EveryShareOutFits 5000000000000000000 }
+    ensures life { EveryLifeFits most_amount }
+    ensures tables { EveryShareOutFits most_after_share_out }
 {}
 
 /// The tranches that a share-out enters are those that its event was billed for, in the event's year index.
