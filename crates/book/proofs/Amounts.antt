@@ -1,15 +1,13 @@
 -- The limits of weights and amounts in accepted tables.
-use Rattle.std.specs.Option.{unwrap_or}
-use Rattle.std.proofs.Common.{◌≡◌, ℕ, zero, suc, ◌+◌, ◌*◌, ◌≤◌, Bool, true, false, cond, T, List, [], ◌∷◌, length, take, Some, None, Option, mul-le-mul, mul-le-mul_left, mul-add, arith}
+use Rattle.std.proofs.Common.{◌≡◌, ℕ, zero, suc, ◌+◌, ◌*◌, ◌≤◌, T, List, [], ◌∷◌, length, take, mul-le-mul, mul-le-mul_left, mul-add, arith}
 use Rattle.std.specs.List.{AllByRecursion}
 use Rattle.calendar.specs.Days.{is_date}
-use Rattle.tariff.specs.Meaning.{Meaning, Lawful, Answered, PriceLimits}
-use Rattle.tariff.specs.declared.kinds.Kind.{Kind}
+use Rattle.tariff.specs.Meaning.{Meaning, Lawful}
 use Rattle.tariff.specs.Bounds.{most_price}
 use Rattle.book.specs.Limits.{most_whole_weight}
 use Rattle.book.specs.Lists.{total}
 use Rattle.book.specs.Members.{Member, rate_of, weighed, weight_to, whole_weight, Addition}
-use Rattle.unit_prices.specs.Prices.{price_at, unit_contribution, earlier}
+use Rattle.unit_prices.specs.Prices.{unit_contribution}
 use Rattle.book.specs.Sharing.{object_contribution}
 use Rattle.book.specs.declared.entries.RegisterEntry.{RegisterEntry}
 use Rattle.unit_prices.proofs.Bounds.{unit_most}

@@ -1,12 +1,10 @@
 -- A raise that is cut: the tranches of the parts add up, and rounding misses by less than one in each.
-use Rattle.std.specs.Option.{unwrap_or}
-use Rattle.std.proofs.Common.{◌≡◌, ℕ, suc, ◌+◌, ◌*◌, ◌<◌, ◌≤◌, Bool, true, false, cond, ◌&&◌, T, eqb, List, [], ◌∷◌, ◌++◌, length, Some, None, Option, sym, refl, ap, ◌∙◌, mul_assoc, suc-mul, mul_comm, add-mul, mul-le-mul, lt_of_mul-lt-mul_right, mul-zero, zero-mul, mul-add, arith, find}
+use Rattle.std.proofs.Common.{◌≡◌, ℕ, suc, ◌+◌, ◌*◌, ◌<◌, ◌≤◌, Bool, true, false, cond, ◌&&◌, T, eqb, List, [], ◌∷◌, ◌++◌, length, Some, sym, refl, ap, ◌∙◌, mul_assoc, suc-mul, mul_comm, add-mul, mul-le-mul, lt_of_mul-lt-mul_right, mul-zero, zero-mul, mul-add, arith, find}
 use Rattle.std.specs.List.{AllByRecursion}
 use Rattle.std.proofs.lemmas.Bool.{eq-eqb}
 use Rattle.calendar.specs.Days.{is_date}
-use Rattle.tariff.specs.Meaning.{Meaning, Lawful, Near, Answered, CoefficientLimits}
+use Rattle.tariff.specs.Meaning.{Meaning, Lawful, Near, CoefficientLimits}
 use Rattle.tariff.specs.declared.kinds.Kind.{Kind}
-use Rattle.tariff.specs.declared.kinds.Coefficient.{Coefficient}
 use Rattle.tariff.specs.Bounds.{most_price}
 use Rattle.book.specs.Lists.{total}
 use Rattle.book.specs.Lines.{line, shows, unit_of, unit_shown}

@@ -3,8 +3,7 @@ use Rattle.std.proofs.Common.{◌≡◌, ℕ, zero, suc, ◌+◌, ◌*◌, ◌<�
 use Rattle.std.specs.List.{AllByRecursion}
 use Rattle.std.proofs.lemmas.Bool.{eqb-true, eqb-false}
 use Rattle.calendar.specs.Days.{is_date}
-use Rattle.tariff.specs.Meaning.{Meaning, Lawful, CoefficientLimits}
-use Rattle.tariff.specs.declared.kinds.Kind.{Kind}
+use Rattle.tariff.specs.Meaning.{Meaning, Lawful}
 use Rattle.checks.specs.Numbers.{most_dwellings}
 use Rattle.tariff.specs.Bounds.{most_price}
 use Rattle.book.specs.Limits.{most_amount, most_after_share_out, most_contribution, most_whole_weight}
@@ -12,7 +11,7 @@ use Rattle.checks.specs.Tables.{one_of}
 use Rattle.book.specs.Lists.{total}
 use Rattle.book.specs.Lines.{line}
 use Rattle.book.specs.Members.{Member, member_of, rate_of, weight_to, whole_weight, Addition, entered_members, member_subscribed}
-use Rattle.unit_prices.specs.Prices.{price_at, coefficient_at, earlier, unit_price, unit_contribution}
+use Rattle.unit_prices.specs.Prices.{price_at, earlier, unit_contribution}
 use Rattle.book.specs.Billing.{billed, bill, charged}
 use Rattle.book.specs.Sharing.{amount_divided, serves, unit_share, credit, credits, object_contribution, payout, share_of}
 use Rattle.book.specs.Zone.{Tables, counted_roll, counted_register, counted_members, Phase, preparing, launched, levied, Effect}

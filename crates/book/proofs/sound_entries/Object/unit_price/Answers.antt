@@ -1,6 +1,5 @@
-use Rattle.std.proofs.Common.{◌≡◌, ap, ◌∙◌, arith}
+use Rattle.std.proofs.Common.{ap, ◌∙◌, arith}
 use Rattle.std.specs.Result.{result_unwrap_or}
-use Rattle.unit_prices.specs.Prices.{unit_price}
 use Rattle.unit_prices.proofs.Bounds.{unit_price_most}
 use Rattle.unit_prices.proofs.Checked.{price_taken}
 use Rattle.book.proofs.Soundness.{sized_of}
