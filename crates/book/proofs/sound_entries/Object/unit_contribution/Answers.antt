@@ -3,7 +3,7 @@ use Rattle.std.specs.Result.{result_unwrap_or}
 use Rattle.unit_prices.proofs.Bounds.{unit_most}
 use Rattle.unit_prices.proofs.Checked.{contribution_taken}
 use Rattle.book.proofs.Soundness.{sized_of}
-use Rattle.book.proofs.counted.Object.unit_contribution.Goals as goal
+use Rattle.book.proofs.sound_entries.Object.unit_contribution.Goals as goal
 
 pub returns : goal.returns
 returns g c =
