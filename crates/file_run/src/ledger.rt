@@ -51,7 +51,10 @@ impl Ledger {
         sheet: &T,
         event: FileEvent<'_>,
     ) -> Result<ZoneState, Refused<ZoneState>>
-        ensures answer { ComesTo state_in state_in (T.meaning sheet.now) (state_in zone (tables_of self.old)) (call_of (shown_event event.entry)) (tables_of self.new) result }
+        ensures answer { let before = state_in zone (tables_of self.old) in
+            let call = call_of (shown_event event.entry) in
+            let after = tables_of self.new in
+            ComesTo state_in state_in (T.meaning sheet.now) before call after result }
     {
         match zone {
             ZoneState::Prepared(prepared) => self.taken_before_launch(prepared, event).map_err(
@@ -76,7 +79,9 @@ impl Ledger {
         zone: PreparedZone,
         event: FileEvent<'_>,
     ) -> Result<ZoneState, Refused<PreparedZone>>
-        ensures answer { (m : Meaning) → ComesTo state_in prepared m (prepared zone (tables_of self.old)) (call_of (shown_event event.entry)) (tables_of self.new) result }
+        ensures answer { let before = prepared zone (tables_of self.old) in
+            let call = call_of (shown_event event.entry) in
+            (m : Meaning) → ComesTo state_in prepared m before call (tables_of self.new) result }
     {
         let (roll, register) = (&mut self.roll, &self.register);
         match event {
@@ -113,7 +118,9 @@ impl Ledger {
         sheet: &T,
         event: FileEvent<'_>,
     ) -> Result<LaunchedZone, Refused<LaunchedZone>>
-        ensures answer { StaysLaunched (T.meaning sheet.now) (launched_on zone (tables_of self.old)) (call_of (shown_event event.entry)) (tables_of self.new) result }
+        ensures answer { let before = launched_on zone (tables_of self.old) in
+            let call = call_of (shown_event event.entry) in
+            StaysLaunched (T.meaning sheet.now) before call (tables_of self.new) result }
     {
         match event {
             FileEvent::Commitment {
@@ -157,7 +164,9 @@ impl Ledger {
         object: u32,
         dwellings: u32,
     ) -> Result<LaunchedZone, Refused<LaunchedZone>>
-        ensures answer { StaysLaunched (T.meaning sheet.now) (launched_on zone (tables_of self.old)) (call_opening date object dwellings) (tables_of self.new) result }
+        ensures answer { let before = launched_on zone (tables_of self.old) in
+            let call = call_opening date object dwellings in
+            StaysLaunched (T.meaning sheet.now) before call (tables_of self.new) result }
     {
         let (roll, register, strip) = (&self.roll, &mut self.register, &mut self.strip);
         let done = zone.opening(sheet, roll, register, strip, date, object, dwellings)?;
@@ -173,7 +182,9 @@ impl Ledger {
         third_party: bool,
         dwellings: u32,
     ) -> Result<LaunchedZone, Refused<LaunchedZone>>
-        ensures answer { StaysLaunched (T.meaning sheet.now) (launched_on zone (tables_of self.old)) (call_cabling date object third_party dwellings) (tables_of self.new) result }
+        ensures answer { let before = launched_on zone (tables_of self.old) in
+            let call = call_cabling date object third_party dwellings in
+            StaysLaunched (T.meaning sheet.now) before call (tables_of self.new) result }
     {
         let (roll, register, strip) = (&self.roll, &mut self.register, &mut self.strip);
         let done = zone.cabling(
