@@ -9,7 +9,8 @@ use Rattle.book.specs.Limits.{most_index}
 use Rattle.book.specs.Lists.{written}
 use Rattle.book.specs.Lines.{line}
 use Rattle.book.specs.Members.{Addition}
-use Rattle.book.specs.Billing.{earlier, unit_price, unit_contribution, billed, bill}
+use Rattle.unit_prices.specs.Prices.{earlier, unit_price, unit_contribution}
+use Rattle.book.specs.Billing.{billed, bill}
 use Rattle.book.specs.Zone.{Tables, counted_register, levied, Effect, dated}
 use Rattle.book.specs.Answers.{added, billing_lines, billing_checks, billing_effect}
 use Rattle.book.specs.Increases.{lines_of, lines_billed}

@@ -5,7 +5,8 @@ use Rattle.std.specs.List.{AllByRecursion}
 use Rattle.tariff.specs.Meaning.{Meaning}
 use Rattle.book.specs.Lines.{line}
 use Rattle.book.specs.Members.{Member, weight_to, whole_weight, Addition}
-use Rattle.book.specs.Billing.{earlier, unit_contribution, billed, bill}
+use Rattle.unit_prices.specs.Prices.{earlier, unit_contribution}
+use Rattle.book.specs.Billing.{billed, bill}
 use Rattle.book.specs.Sharing.{to_share, serves, unit_share, times, credit, credits}
 use Rattle.book.specs.Grounds.{LinesCounted}
 use Rattle.book.specs.declared.entries.RegisterEntry.{RegisterEntry}

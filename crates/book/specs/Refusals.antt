@@ -16,7 +16,7 @@ use Rattle.checks.specs.Tables.{one_of, has_number, is_bad_table}
 use Rattle.tariff.specs.Meaning.{Meaning}
 use Rattle.book.specs.Limits.{most_operators, most_objects, most_index, most_amount}
 use Rattle.book.specs.Members.{rate_of, member, present_rate}
-use Rattle.book.specs.Billing.{earlier}
+use Rattle.unit_prices.specs.Prices.{earlier}
 use Rattle.book.specs.Zone.{Tables, counted_register, counted_members}
 use Rattle.book.specs.declared.entries.RollEntry.{RollEntry}
 use Rattle.book.specs.declared.entries.RegisterEntry.{RegisterEntry}

@@ -11,7 +11,7 @@ use Rattle.book.specs.Limits.{most_contributed, most_credited, most_credit_lines
 use Rattle.book.specs.Lists.{total}
 use Rattle.book.specs.Lines.{line}
 use Rattle.book.specs.Members.{Member, Addition, weight_to, whole_weight}
-use Rattle.book.specs.Billing.{unit_contribution}
+use Rattle.unit_prices.specs.Prices.{unit_contribution}
 use Rattle.book.specs.declared.entries.RegisterEntry.{RegisterEntry}
 use Rattle.book.specs.declared.lines.Line.{Line}
 use Rattle.book.specs.declared.lines.Nature.TheVariants.{Credit}

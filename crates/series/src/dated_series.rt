@@ -9,16 +9,18 @@ use refusal::Refusal;
 
 const MOST_ROWS: usize = 512;
 
-/// Rows that their maker lends, judged once: at most 512, on real days that rise strictly.
-#[derive(Drop)]
-pub struct Series<'a, V> {
+/// Rows that their maker lends, judged once: at most 512, on real days that rise strictly, each value within the limits of
+/// its kind.
+#[derive(PartialEq, Eq, Debug, Drop)]
+pub struct Series<'a, V: Limited> {
     rows: &'a [Dated<V>],
     ghost few: { length rows.now ≤ most_rows },
     ghost real: { real rows.now ≡ true },
     ghost rising: { rising rows.now ≡ true },
+    ghost fit: { within_limits V.Limited.fits rows.now ≡ true },
 }
 
-impl<'a, V> Series<'a, V> {
+impl<'a, V: Limited> Series<'a, V> {
     ghost use Rattle.series.specs.Lent.{rows_of};
 
     /// A series of no rows: the place to fill.
@@ -79,8 +81,8 @@ fn keep_limits<V: Limited>(rows: &[Dated<V>]) -> bool
     rows.iter().all(|row| row.value.in_limits())
 }
 
-impl<'a, V: Copy> Series<'a, V> {
-    ghost use Rattle.series.specs.Found.{KeepsLimits};
+impl<'a, V: Limited + Copy> Series<'a, V> {
+    ghost use Rattle.series.specs.Found.{Keeps, KeepsLimits};
     ghost use Rattle.series.specs.Laws.{SteadyOn, SteadyBefore, OwnDayOn, OwnDayBefore};
     ghost use Rattle.series.specs.Lent.{rows_of};
     ghost use Rattle.series.specs.Lookups.{in_force_on, in_force_before};
@@ -91,6 +93,7 @@ impl<'a, V: Copy> Series<'a, V> {
         ensures steady { SteadyOn (rows_of self.now) day result }
         ensures own { OwnDayOn (rows_of self.now) day result }
         ensures limits { KeepsLimits (rows_of self.now) result }
+        ensures fits { Keeps V.Limited.fits result }
     {
         // Dated up to a day is dated below the next number.
         self.last_below(u64::from(day) + 1)
@@ -102,6 +105,7 @@ impl<'a, V: Copy> Series<'a, V> {
         ensures steady { SteadyBefore (rows_of self.now) day result }
         ensures own { OwnDayBefore (rows_of self.now) day result }
         ensures limits { KeepsLimits (rows_of self.now) result }
+        ensures fits { Keeps V.Limited.fits result }
     {
         self.last_below(u64::from(day))
     }
@@ -115,7 +119,7 @@ impl<'a, V: Copy> Series<'a, V> {
     }
 }
 
-impl<'a, V> Series<'a, V> {
+impl<'a, V: Limited> Series<'a, V> {
     ghost use Rattle.std.specs.List.Sorted.{IsPartitionPoint};
     ghost use Rattle.series.specs.Lent.{rows_of};
 

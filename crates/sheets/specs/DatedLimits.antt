@@ -27,7 +27,7 @@ dated_lawful sheet =
     let records = rows_of sheet.prices in
     sheet_lawful (recorded records) (by_row common_row) five_up sheet.terms (record {
       prices = λ kind installed.
-          found_limits (in_force_on records installed) kind (kept_found prices_in_limits (λ date. nat_le date installed) records sheet.prices_fit);
+          found_limits (in_force_on records installed) kind (kept_found prices_in_limits (λ date. nat_le date installed) records sheet.prices.fit);
       coefficients = λ installed receipt. common_limits (months_between installed receipt);
       near = near_five_up;
       given = sheet.terms_fit;

@@ -1,8 +1,7 @@
 // The dated sheet: prices in force on the installation date, from a lent series of price records; how a place for it is
 // filled, and what it answers.
 ghost use Rattle.std.specs.Prelude.{◌≡◌, ◌&&◌, true, IsSomeAnd, OnOk, OnErr};
-ghost use Rattle.series.specs.Lent.{rows_of};
-ghost use Rattle.series.specs.Rows.{within_limits, sound};
+ghost use Rattle.series.specs.Rows.{sound};
 ghost use Rattle.sheet_parts.specs.Given.{prices_in_limits, terms_in_limits, making};
 
 use calendar::months_between;
@@ -16,11 +15,10 @@ use tariff::quotient::Quotient;
 use tariff::tariff::Tariff;
 
 /// A sheet of price records, on the common row, rounding five-up. It has no price before the first record.
-#[derive(Drop)]
+#[derive(PartialEq, Eq, Debug, Drop)]
 pub struct DatedSheet<'a> {
     prices: Series<'a, Prices>,
     terms: Terms,
-    ghost prices_fit: { within_limits prices_in_limits (rows_of prices) ≡ true },
     ghost terms_fit: { terms_in_limits terms ≡ true },
 }
 

@@ -2,8 +2,7 @@
 // and what it answers.
 ghost use Rattle.std.specs.Prelude.{◌≡◌, ◌&&◌, true, IsSomeAnd, OnOk, OnErr};
 ghost use Rattle.series.specs.Limits.{index_fits};
-ghost use Rattle.series.specs.Lent.{rows_of};
-ghost use Rattle.series.specs.Rows.{within_limits, sound};
+ghost use Rattle.series.specs.Rows.{sound};
 ghost use Rattle.sheet_parts.specs.Row.{common_row, coefficient_after};
 ghost use Rattle.sheet_parts.specs.Given.{prices_in_limits, terms_in_limits, making};
 ghost use Rattle.sheets.specs.Indexing.{wage_ratio, consumer_ratio, smaller, row_times, RatioLimits};
@@ -19,7 +18,7 @@ use tariff::quotient::Quotient;
 use tariff::tariff::Tariff;
 
 /// A sheet of three prices, on the common row times the smaller rise of two series of index numbers, rounding five-down.
-#[derive(Drop)]
+#[derive(PartialEq, Eq, Debug, Drop)]
 pub struct IndexedSheet<'a> {
     prices: Prices,
     terms: Terms,
@@ -27,8 +26,6 @@ pub struct IndexedSheet<'a> {
     consumer: Series<'a, IndexNumber>,
     ghost prices_fit: { prices_in_limits prices ≡ true },
     ghost terms_fit: { terms_in_limits terms ≡ true },
-    ghost wages_fit: { within_limits index_fits (rows_of wages) ≡ true },
-    ghost consumer_fit: { within_limits index_fits (rows_of consumer) ≡ true },
 }
 
 impl<'a> IndexedSheet<'a> {

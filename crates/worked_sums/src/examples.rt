@@ -11,6 +11,7 @@ ghost use Rattle.worked_sums.specs.OtherTables.{TablesLimited};
 /// Operators of 4 and 2 tranches share what the third's tranche contributes to a PM of 300
 /// dwellings at 6.91 euros: 310.95 euros, 207.30 and 103.65, in micro-euros. An opening dated
 /// before it is refused by 3.
+#[tactic(auto, unfolding(sheet_parts::specs::Row::coefficient_after))]
 pub const fn statement_example()
     ensures refusal { told sheet_up (blank 4 3) statement ≡
         Some 0 ∷ Some 0 ∷ Some 0 ∷ Some 0 ∷ Some 0 ∷ Some 0 ∷ Some 3 ∷ [] }
@@ -22,6 +23,7 @@ pub const fn statement_example()
 
 /// 310.95 euros among seven equal weights hold 4 micro-euros five-down, and overpay 3 five-up. All
 /// seven get the same: the last does not get the rest.
+#[tactic(auto, unfolding(sheet_parts::specs::Row::coefficient_after))]
 pub const fn seven_equal_weights()
     ensures down { moved (seven_end sheet_down).figures.totals ≡
         310950000 ∷ 310949996 ∷ 0 ∷ 7 ∷ [] }

@@ -1,30 +1,18 @@
-use Rattle.std.proofs.Common.{arith}
+use Rattle.std.proofs.Common.{◌≡◌, ap, ◌∙◌, arith}
+use Rattle.std.specs.Result.{result_unwrap_or}
+use Rattle.unit_prices.specs.Prices.{unit_price}
+use Rattle.unit_prices.proofs.Bounds.{unit_price_most}
+use Rattle.unit_prices.proofs.Checked.{price_taken}
 use Rattle.book.proofs.Soundness.{sized_of}
-use Rattle.book.proofs.Pricing.{limits, rated_in, rated_top}
 use Rattle.book.proofs.counted.Object.unit_price.Goals as goal
 
-pub overflow_mul-price-2 : goal.overflow_mul-price-2
-overflow_mul-price-2 g c =
-    let o = c.args.self.item.now in
-    let b = rated_in (g.T.Tariff.meaning c.args.sheet.now) (g.T.Tariff.lawful c.args.sheet.now) o.kind o.installed c.args.increase.date c.args.increase.tranches _ _
-    c.price.ensures.value c.from.ensures c.price.ensures.most c.args.increase.few
-    (sized_of o c.args.self.sound).1 c.requires.real _ c.coefficient_at-coefficient.ensures.value _ c.from-2.ensures in omega arith
-
-pub invariant_of-rounded : goal.invariant_of-rounded
-invariant_of-rounded g c =
+pub returns : goal.returns
+returns g c =
     let m = g.T.Tariff.meaning c.args.sheet.now in
+    let law = g.T.Tariff.lawful c.args.sheet.now in
     let o = c.args.self.item.now in
-    let b = rated_in m (g.T.Tariff.lawful c.args.sheet.now) o.kind o.installed c.args.increase.date c.args.increase.tranches _ _
-    c.price.ensures.value c.from.ensures c.price.ensures.most c.args.increase.few
-    (sized_of o c.args.self.sound).1 c.requires.real _ c.coefficient_at-coefficient.ensures.value _ c.from-2.ensures in
-    let l = limits m (g.T.Tariff.lawful c.args.sheet.now) o.kind o.installed c.args.increase.date c.args.increase.tranches _ _
-    c.price.ensures.value c.from.ensures c.price.ensures.most c.args.increase.few
-    (sized_of o c.args.self.sound).1 c.requires.real _ c.coefficient_at-coefficient.ensures.value _ c.from-2.ensures in
-    record { most = omega arith; some = l.some; small = l.small }
-
-pub returns-clause-most : goal.returns-clause-most
-returns-clause-most g c =
-    let o = c.args.self.item.now in
-    rated_top (g.T.Tariff.meaning c.args.sheet.now) (g.T.Tariff.lawful c.args.sheet.now) o.kind o.installed c.args.increase.date c.args.increase.tranches _ _
-    c.price.ensures.value c.from.ensures c.price.ensures.most c.args.increase.few
-    (sized_of o c.args.self.sound).1 c.requires.real _ c.coefficient_at-coefficient.ensures.value _ c.from-2.ensures _ c.rounded.ensures.value
+    let i = c.args.increase in
+    let real = (sized_of o c.args.self.sound).1 in
+    let is = c.unwrap_or.ensures ∙ ap (λ r. result_unwrap_or r 0) c.unit_price.ensures.answer ∙ price_taken m law o.kind o.installed i.date i.tranches real c.requires.real i.few in
+    let most = unit_price_most m law o.kind o.installed i.date i.tranches real c.requires.real i.few in
+    record { value = is; most = omega (arith, is, most) }
