@@ -4,7 +4,7 @@ use Rattle.book.specs.Members.{member_of}
 use Rattle.book.specs.Zone.{counted_members, counted_register}
 use Rattle.book.proofs.Ending.{never_refused}
 use Rattle.file_run.specs.Zones.{tables_of}
-use Rattle.file_run.proofs.Leading.{only_answer}
+use Rattle.file_run.proofs.Leading.{levy_closed, only_answer}
 use Rattle.file_run.proofs.ledger.Ledger.share_out.Goals as goal
 
 pub unreachable-requires : goal.unreachable-requires
@@ -18,3 +18,8 @@ unreachable-requires g c =
     let short : length (counted_register f t) ≤ 64 = omega (arith, length-take f.objects t.register) in
     let product : length (counted_members f t) * length (counted_register f t) ≤ 16 * 64 = mul-le-mul few short in
     never_refused m bill.figures bill.launch_date levy t _ _ bill.event _ _ bill.answer (only_answer _ _ (sym c.in-Err.ensures.call.given)) (omega (arith, product))
+
+pub returns : goal.returns
+returns g c =
+    let m = g.T.Tariff.meaning c.args.sheet.now in
+    record { shared = levy_closed m _ (omega arith) c.args.levy (tables_of c.args.self.now) _ c.in-Ok.ensures.call.given }
