@@ -17,8 +17,8 @@ use Rattle.book.specs.Increases.{lines_of, lines_billed}
 use Rattle.book.specs.declared.entries.RegisterEntry.{RegisterEntry}
 use Rattle.book.specs.declared.lines.Line.{Line}
 use Rattle.book.specs.declared.lines.Nature.TheVariants.{Charge, Contribution}
-use Rattle.book.specs.declared.zone.Figures.{Figures}
-use Rattle.book.specs.declared.zone.Event.{Event}
+use Rattle.book.specs.declared.figures.Figures.{Figures}
+use Rattle.book.specs.declared.event.Event.{Event}
 use Rattle.book.proofs.Passing.{accepted_is, real_of}
 use Rattle.book.proofs.Admitting.{Admitted}
 use Rattle.book.proofs.Passed.{billing_passed}

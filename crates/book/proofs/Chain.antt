@@ -19,8 +19,8 @@ use Rattle.book.specs.Laws.{EveryCutFair}
 use Rattle.book.specs.declared.entries.RegisterEntry.{RegisterEntry}
 use Rattle.book.specs.declared.lines.Line.{Line}
 use Rattle.book.specs.declared.lines.Nature.TheVariants.{Charge, Contribution}
-use Rattle.book.specs.declared.zone.Figures.{Figures}
-use Rattle.book.specs.declared.zone.Event.{Event}
+use Rattle.book.specs.declared.figures.Figures.{Figures}
+use Rattle.book.specs.declared.event.Event.{Event}
 use Rattle.book.proofs.Totals.{total_map}
 use Rattle.book.proofs.Passing.{accepted_is, real_of}
 use Rattle.book.proofs.Passed.{raise_passed, billing_passed, settling_passed}

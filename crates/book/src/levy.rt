@@ -7,21 +7,22 @@ ghost use Rattle.book.specs.Passing.{tables};
 ghost use Rattle.book.specs.Zone.{launch_day, open_event};
 ghost use Rattle.book.specs.Zone as spec;
 
-use crate::adding::increase_of;
-use crate::counted::Objects;
 use crate::entries::{RegisterEntry, RollEntry};
+use crate::event::Event;
+use crate::figures::{Core, Figures, Totals};
+use crate::increase::Increase;
 use crate::launched::LaunchedZone;
 use crate::lines::Line;
-use crate::refused::Refused;
-use crate::settle::settle;
+use crate::outcome::{Refused, Written};
+use crate::share::settle;
+use crate::sound_entries::Objects;
 use crate::tables::Tables;
-use crate::written::Written;
-use crate::zone::{Core, Event, Figures, Totals};
 use calendar::year_index;
 use tariff::tariff::Tariff;
 
-// The launched zone that it goes back to, and the event that it keeps. It takes a share-out and nothing else. It has no
-// `Drop`, so that no code can let it go: a levy may not lapse.
+/// An open levy: the launched zone that it goes back to, and the event that it keeps. It takes a share-out and nothing
+/// else. It has no `Drop`, so that no code can let it go: a levy may not lapse.
+#[must_use]
 pub struct OpenLevy {
     pub(crate) zone: LaunchedZone,
     pub(crate) event: Event,
@@ -31,21 +32,21 @@ pub struct OpenLevy {
 impl OpenLevy {
     ghost use Rattle.book.specs.Promises.{launched_on, levied_on, written_answer, written_count, IsAnswered, WholeLifeLaws};
 
-    // The zone's plain numbers.
+    /// The zone's plain numbers.
     pub const fn figures(&self) -> Figures
         ensures value { (t : spec.Tables) → result ≡ (levied_on self.now t).figures }
     {
         self.zone.core.figures
     }
 
-    // The day of the launch.
+    /// The day of the launch, yyyymmdd.
     pub const fn launch_date(&self) -> u32
         ensures value { (t : spec.Tables) → Some result ≡ launch_day (levied_on self.now t).phase }
     {
         self.zone.launch_date
     }
 
-    // The event that is to be shared out.
+    /// The event that is to be shared out.
     pub const fn event(&self) -> Event
         ensures value { (t : spec.Tables) → Some result ≡ open_event (levied_on self.now t).phase }
     {
@@ -59,7 +60,9 @@ impl OpenLevy {
         year_index(self.zone.launch_date, self.event.date)
     }
 
-    // Credits the operators that the event found with their shares, then enters the event's tranches.
+    /// Credits the operators that the event found with their shares, in lines on the strip from its start and on their
+    /// balances, in micro-euros; then enters the event's tranches. Refused by 1 (tables), 5 to 10 (roll), 14 (sheet), 16
+    /// (strip), the first that holds; nothing is changed or written then, and the levy is handed back.
     pub fn share_out<T: Tariff>(
         self,
         sheet: &T,
@@ -86,7 +89,7 @@ impl OpenLevy {
         let OpenLevy { zone, event } = self;
         let LaunchedZone { core, launch_date } = zone;
         let figures = core.figures;
-        let increase = increase_of(&event, index, &roll[..figures.operators]);
+        let increase = Increase::of_event(&event, index, &roll[..figures.operators]);
         let objects = Objects {
             items: &register[..figures.objects],
         };

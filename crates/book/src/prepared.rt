@@ -7,16 +7,18 @@ ghost use Rattle.book.specs.Passing.{tables};
 ghost use Rattle.book.specs.Zone.{no_figures};
 ghost use Rattle.book.specs.Zone as spec;
 
-use crate::adding::increase_of;
 use crate::enter::enter;
 use crate::entries::{RegisterEntry, RollEntry};
+use crate::event::{Change, Event};
+use crate::figures::{Core, Figures, Totals};
+use crate::increase::Increase;
 use crate::launched::LaunchedZone;
-use crate::refused::Refused;
+use crate::outcome::Refused;
 use crate::tables::Tables;
-use crate::zone::{Change, Core, Event, Figures, Totals};
 
-// It is moved from call to call.
+/// A zone in preparation. It is moved from call to call.
 #[derive(Drop)]
+#[must_use]
 pub struct PreparedZone {
     pub(crate) core: Core,
 }
@@ -24,7 +26,7 @@ pub struct PreparedZone {
 impl PreparedZone {
     ghost use Rattle.book.specs.Promises.{prepared, launched_on, answered, IsAnswered, LivesBegin, WholeLifeLaws};
 
-    // An empty zone: no date yet, no entry counted, nothing moved.
+    /// An empty zone: no date yet, no entry counted, nothing moved.
     pub const fn new() -> PreparedZone
         ensures value { (t : spec.Tables) → (prepared result t).figures ≡ no_figures }
         ensures life { (m : Meaning) → Lawful m → LivesBegin m result }
@@ -47,14 +49,15 @@ impl PreparedZone {
         }
     }
 
-    // The zone's plain numbers.
+    /// The zone's plain numbers.
     pub const fn figures(&self) -> Figures
         ensures value { (t : spec.Tables) → result ≡ (prepared self.now t).figures }
     {
         self.core.figures
     }
 
-    // An operator commits itself to a rate, without charge.
+    /// An operator commits itself to a rate, in tranches, on a day, without charge: they enter the roll at index 0.
+    /// Refused by 1 (tables), 2, 3 (date), 5, 6, 7, 10 (roll), the first that holds; nothing is changed then.
     pub fn commitment(
         self,
         roll: &mut [RollEntry],
@@ -79,7 +82,8 @@ impl PreparedZone {
         self.subscribed(roll, register, event)
     }
 
-    // An operator raises its rate, without charge.
+    /// An operator raises its rate to so many tranches, on a day, without charge. Refused by 1 (tables), 2, 3 (date), 5, 6,
+    /// 8, 9 (roll), the first that holds; nothing is changed then.
     pub fn raise(
         self,
         roll: &mut [RollEntry],
@@ -104,7 +108,7 @@ impl PreparedZone {
         self.subscribed(roll, register, event)
     }
 
-    // Launches the zone on a date, with its tables as they are.
+    /// Launches the zone on a date, with its tables as they are. Refused by 1 (tables), 2, 3 (date), the first that holds.
     pub fn launch(
         self,
         roll: &[RollEntry],
@@ -153,7 +157,7 @@ impl PreparedZone {
             Ok(()) => {
                 let PreparedZone { core } = self;
                 let figures = core.figures;
-                let increase = increase_of(&event, 0, &roll[..figures.operators]);
+                let increase = Increase::of_event(&event, 0, &roll[..figures.operators]);
                 let operators = enter(increase, roll, figures.operators);
                 Ok(PreparedZone {
                     core: Core {

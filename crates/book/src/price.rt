@@ -8,8 +8,8 @@ ghost use Rattle.book.specs.Limits.{most_contribution};
 ghost use Rattle.book.specs.Increases.{addition_in};
 ghost use Rattle.book.specs.Sharing.{object_contribution};
 
-use crate::counted::Object;
 use crate::increase::Increase;
+use crate::sound_entries::Object;
 use tariff::quotient::Quotient;
 use tariff::tariff::{Tariff, WHOLE};
 use unit_prices::price::unit_price;

@@ -5,7 +5,7 @@ use Rattle.book.specs.Laws.{HeldUnder}
 use Rattle.book.specs.Life.{Life, begins, empty_state}
 use Rattle.book.specs.Lists.{total}
 use Rattle.book.specs.Zone.{Tables}
-use Rattle.book.specs.declared.zone.Totals.{Totals}
+use Rattle.book.specs.declared.figures.Totals.{Totals}
 use Rattle.book.proofs.Accounts.{every_life_accounted}
 use Rattle.book.proofs.Mirroring.{mirrors}
 use Rattle.book.proofs.Reaching.{every_life_fits}

@@ -12,10 +12,10 @@ use crate::notice::RefusedEvent;
 use crate::report::{REGISTER_PLACES, ROLL_PLACES};
 use crate::zone_state::ZoneState;
 use book::entries::{RegisterEntry, RollEntry};
+use book::figures::Figures;
 use book::lines::Line;
+use book::outcome::Refused;
 use book::prepared::PreparedZone;
-use book::refused::Refused;
-use book::zone::Figures;
 use event_file::event::PlacedEvent;
 use std::mem;
 use tariff::tariff::Tariff;
@@ -40,7 +40,8 @@ impl Books {
             ledger: Ledger {
                 roll,
                 register,
-                strip: [Line::BLANK; STRIP_PLACES],
+                bill: [Line::BLANK; STRIP_PLACES],
+                credits: [Line::BLANK; STRIP_PLACES],
             },
         }
     }

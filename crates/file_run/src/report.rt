@@ -8,7 +8,7 @@ use crate::books::Books;
 use crate::notice::Notice;
 use crate::reading::read_file;
 use book::entries::{RegisterEntry, RollEntry};
-use book::zone::Figures;
+use book::figures::Figures;
 use money::signed::SignedMoney;
 use std::alloc::{AllocError, Global};
 use tariff::tariff::Tariff;
@@ -42,13 +42,17 @@ pub fn run_file<'a, T: Tariff>(
     ensures notices { let t = tables roll.old register.old in
         let said = file_notices (T.meaning sheet.now) t bytes.now in
         IfOk result (λ x. map shown_notice x.notices.items ≡ said) }
-    ensures figures { let end = ending (T.meaning sheet.now) (tables roll.old register.old) bytes.now in
+    ensures figures { let t = tables roll.old register.old in
+        let end = ending (T.meaning sheet.now) t bytes.now in
         IfOk result (λ x. x.figures ≡ end.figures) }
-    ensures tables { let end = ending (T.meaning sheet.now) (tables roll.old register.old) bytes.now in
+    ensures tables { let t = tables roll.old register.old in
+        let end = ending (T.meaning sheet.now) t bytes.now in
         OnOk result (tables roll.new register.new ≡ end.tables) }
-    ensures held { let end = ending (T.meaning sheet.now) (tables roll.old register.old) bytes.now in
+    ensures held { let t = tables roll.old register.old in
+        let end = ending (T.meaning sheet.now) t bytes.now in
         IfOk result (λ x. IsHeld x.held x.figures.totals.contributed (paid_out end)) }
-    ensures closed { let end = ending (T.meaning sheet.now) (tables roll.old register.old) bytes.now in
+    ensures closed { let t = tables roll.old register.old in
+        let end = ending (T.meaning sheet.now) t bytes.now in
         OnOk result (Closed end.phase) }
     ensures kept { OnErr result ((roll.new ≡ roll.old) × (register.new ≡ register.old)) }
     ensures life { RunsAsLife (T.meaning sheet.now) (tables roll.old register.old) bytes.now }

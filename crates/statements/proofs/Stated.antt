@@ -3,7 +3,7 @@ use Rattle.std.proofs.Common.{◌≡◌, ℕ, Bool, List, take, ap, ◌∙◌}
 use Rattle.money.specs.Signs.{apart, below_zero, difference_text, signed_text}
 use Rattle.tariff.specs.Meaning.{Meaning}
 use Rattle.book.specs.Zone.{Tables}
-use Rattle.book.specs.declared.zone.Figures.{Figures}
+use Rattle.book.specs.declared.figures.Figures.{Figures}
 use Rattle.file_run.specs.Reports.{ShownNotice, ending, file_notices, paid_out}
 use Rattle.statements.specs.Statements.{statement_of, statement_text}
 

@@ -6,7 +6,7 @@ use Rattle.tariff.specs.Meaning.{Meaning}
 use Rattle.book.specs.Members.{rate_of}
 use Rattle.book.specs.Zone.{State, Tables, counted_roll}
 use Rattle.book.specs.declared.entries.RollEntry.{RollEntry}
-use Rattle.book.specs.declared.zone.Totals.{Totals}
+use Rattle.book.specs.declared.figures.Totals.{Totals}
 use Rattle.file_run.specs.Reports.{ShownNotice, ending, file_notices}
 use Rattle.file_run.specs.Texts.{notice_text}
 use Rattle.statements.specs.declared.parts.Account.{Account}

@@ -5,7 +5,7 @@ ghost use Rattle.statements.specs.Lines.{lines_shown};
 ghost use Rattle.statements.specs.Statements.{account_of, account_text, totals_text};
 
 use book::entries::RollEntry;
-use book::zone::Totals;
+use book::figures::Totals;
 use money::Money;
 use money::signed::SignedMoney;
 use std::fmt;

@@ -12,7 +12,7 @@ use Rattle.book.specs.Runs.{blank_operator, blank_object, blank, Step, ◌on◌,
 use Rattle.book.specs.declared.entries.RollEntry.{RollEntry}
 use Rattle.book.specs.declared.lines.Line.{Line}
 use Rattle.book.specs.declared.lines.Nature.TheVariants.{Charge, Contribution, Credit}
-use Rattle.book.specs.declared.zone.Totals.{Totals}
+use Rattle.book.specs.declared.figures.Totals.{Totals}
 use Rattle.worked_sums.specs.Sheets.{flat_sheet, sheet_up, sheet_of}
 
 -- Balances and rates of the counted operators, in the roll's order.

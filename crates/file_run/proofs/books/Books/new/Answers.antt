@@ -1,7 +1,7 @@
 use Rattle.std.proofs.Common.{ap}
 use Rattle.book.specs.Passing.{tables}
 use Rattle.book.specs.Zone.{State, preparing}
-use Rattle.book.specs.declared.zone.Figures.{Figures}
+use Rattle.book.specs.declared.figures.Figures.{Figures}
 use Rattle.file_run.proofs.books.Books.new.Goals as goal
 
 pub returns : goal.returns
