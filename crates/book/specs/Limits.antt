@@ -1,4 +1,5 @@
--- The limits of a zone, each named once. Those of a single operator or object stand with the checks of single numbers.
+-- The limits of a zone, each named once. Those of a single operator or object stand with the checks
+-- of single numbers.
 --   most_operators, most_objects    what a zone can count
 --   most_index, years               the last year index, and how many there are from 0
 --   most_amount                     of a balance, a total or a count
