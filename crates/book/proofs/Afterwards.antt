@@ -3,9 +3,11 @@ use Rattle.std.proofs.Common.{◌≡◌, ℕ, suc, ◌+◌, ◌-◌, ◌≤◌, 
 use Rattle.std.specs.List.{list_any}
 use Rattle.std.proofs.lemmas.List.{length-append, length-drop, length-take-le, take_at, drop_at, drop-drop, length-map}
 use Rattle.tariff.specs.Meaning.{Meaning}
-use Rattle.book.specs.Lists.{one_of, written}
+use Rattle.checks.specs.Tables.{one_of}
+use Rattle.book.specs.Lists.{written}
 use Rattle.book.specs.Members.{rate_of, Addition, subscribed, entered_roll}
-use Rattle.book.specs.Refusals.{entry_faults, bad_rate}
+use Rattle.checks.specs.Numbers.{bad_rate}
+use Rattle.book.specs.Refusals.{entry_faults}
 use Rattle.book.specs.Answers.{with_credit, credited_roll}
 use Rattle.book.specs.declared.entries.RollEntry.{RollEntry}
 use Rattle.book.specs.declared.entries.RegisterEntry.{RegisterEntry}

@@ -1,19 +1,16 @@
 -- What passed checks tell of an event that is billed, and what billing it leads to.
-use Rattle.std.proofs.Common.{◌≡◌, ℕ, ◌+◌, ◌≤◌, Bool, true, false, cond, T, ltb, List, [], ◌∷◌, ◌++◌, length, take, Ok, Result, sym, refl, ap, ◌∙◌, subst}
+use Rattle.std.proofs.Common.{◌≡◌, ℕ, ◌+◌, ◌≤◌, Bool, true, false, cond, T, List, [], ◌∷◌, length, take, Ok, sym, refl, ap, ◌∙◌, subst}
 use Rattle.std.proofs.lemmas.List.{length-append, take_at}
-use Rattle.std.proofs.lemmas.Bool.{ltb-false}
-use Rattle.refusal.specs.Checks.{Check, ◌⇒◌, passing, in_turn}
-use Rattle.refusal.specs.declared.Refusal.{Refusal}
-use Rattle.refusal.specs.declared.Refusal.TheVariants.{StripTooShort}
-use Rattle.refusal.proofs.First.{in_turn_is}
+use Rattle.refusal.specs.Checks.{in_turn}
 use Rattle.calendar.specs.Days.{is_date, index_of}
 use Rattle.tariff.specs.Meaning.{Meaning}
+use Rattle.checks.specs.Numbers.{most_tranches}
+use Rattle.book.specs.Limits.{most_index}
 use Rattle.book.specs.Lists.{written}
 use Rattle.book.specs.Lines.{line}
 use Rattle.book.specs.Members.{Addition}
 use Rattle.book.specs.Billing.{earlier, unit_price, unit_contribution, billed, bill}
 use Rattle.book.specs.Zone.{Tables, counted_register, levied, Effect, dated}
-use Rattle.book.specs.Refusals.{tables_check, date_checks, index_check, roll_checks, price_check, coefficient_check}
 use Rattle.book.specs.Answers.{added, billing_lines, billing_checks, billing_effect}
 use Rattle.book.specs.Increases.{lines_of, lines_billed}
 use Rattle.book.specs.declared.entries.RegisterEntry.{RegisterEntry}
@@ -21,9 +18,10 @@ use Rattle.book.specs.declared.lines.Line.{Line}
 use Rattle.book.specs.declared.lines.Nature.TheVariants.{Charge, Contribution}
 use Rattle.book.specs.declared.zone.Figures.{Figures}
 use Rattle.book.specs.declared.zone.Event.{Event}
-use Rattle.book.proofs.Passing.{clear_left, clear_right, accepted_is, real_of}
-use Rattle.book.proofs.Admitting.{Admitted, admitted}
-use Rattle.book.proofs.Joining.{few_tranches, rate_within}
+use Rattle.book.proofs.Passing.{accepted_is, real_of}
+use Rattle.book.proofs.Admitting.{Admitted}
+use Rattle.book.proofs.Passed.{billing_passed}
+use Rattle.book.proofs.Joining.{few_tranches}
 
 -- each object has as many lines as are counted for it
 one_or_two : {A : Type 0} (b : Bool) (x y : A) → length (x ∷ cond b (y ∷ []) []) ≡ cond b 2 1
@@ -42,49 +40,25 @@ counted_lines m a (o ∷ os) =
     length-append (billed m a o) (bill m a os) ∙ (λ i. one_counted m a o i + counted_lines m a os i)
 
 module _ (m : Meaning) (f : Figures) (launch_date : ℕ) (t : Tables) (places : ℕ) (v : Event) where
-  abbrev due : ℕ
-  due = lines_billed v.date (counted_register f t)
-
-  -- the checks by place, with a number of lines
-  abbrev sheet_and_strip : ℕ → List Check
-  sheet_and_strip lines = price_check m (counted_register f t) ∷ coefficient_check m v.date (counted_register f t) ∷ (ltb places lines ⇒ StripTooShort) ∷ []
-
-  abbrev later : ℕ → List Check
-  later lines = index_check launch_date v.date ∷ (roll_checks f t v ++ sheet_and_strip lines)
-
-  same_lines : length (billing_lines m f launch_date t v) ≡ due
-  same_lines = counted_lines m (added f launch_date t v) (counted_register f t)
-
-  pub turned : (r : Result (Unit {0}) Refusal) → r ≡ in_turn (tables_check f t ∷ []) (date_checks f v.date ∷ (index_check launch_date v.date ∷ []) ∷ roll_checks f t v ∷ (price_check m (counted_register f t) ∷ []) ∷ (coefficient_check m v.date (counted_register f t) ∷ []) ∷ ((ltb places due ⇒ StripTooShort) ∷ []) ∷ []) → passing (billing_checks m f launch_date t places v) ≡ r
-  turned r is =
-      ap (λ n. passing (tables_check f t ∷ (date_checks f v.date ++ later n))) same_lines
-      ∙ sym (in_turn_is (tables_check f t ∷ []) (date_checks f v.date ∷ (index_check launch_date v.date ∷ []) ∷ roll_checks f t v ∷ (price_check m (counted_register f t) ∷ []) ∷ (coefficient_check m v.date (counted_register f t) ∷ []) ∷ ((ltb places due ⇒ StripTooShort) ∷ []) ∷ []))
-      ∙ sym is
-
   pub record Billable : Type 0 where
     pub tables_in : Admitted f t
     pub real : T (is_date v.date)
-    pub in_time : index_of launch_date v.date ≤ 40
-    pub rate : v.rate ≤ 20
-    pub few : (added f launch_date t v).tranches ≤ 20
+    pub in_time : index_of launch_date v.date ≤ most_index
+    pub rate : v.rate ≤ most_tranches
+    pub few : (added f launch_date t v).tranches ≤ most_tranches
     pub room : length (billing_lines m f launch_date t v) ≤ places
 
-  pub billable : (u : Unit {0}) → passing (billing_checks m f launch_date t places v) ≡ Ok u → Billable
+  pub billable : (u : Unit {0}) → in_turn (billing_checks m f launch_date t places v) tt ≡ Ok u → Billable
   billable u passes =
-      let n = length (billing_lines m f launch_date t v) in
-      let all = (accepted_is (billing_checks m f launch_date t places v) tt u passes).0 in
-      let lawful = admitted f t all.0 in
-      let day = (clear_left (date_checks f v.date) (later n) all.1).0 in
-      let rest = clear_right (date_checks f v.date) (later n) all.1 in
-      let roll = clear_left (roll_checks f t v) (sheet_and_strip n) rest.1 in
-      let last = clear_right (roll_checks f t v) (sheet_and_strip n) rest.1 in
+      let (clear, is) = accepted_is (billing_checks m f launch_date t places v) tt u passes in
+      let passed = billing_passed m f launch_date t places v clear in
       record {
-        tables_in = lawful;
-        real = real_of v.date day;
-        in_time = ltb-false 40 (index_of launch_date v.date) rest.0;
-        rate = rate_within f t v (index_of launch_date v.date) lawful.roll_long roll;
-        few = few_tranches f t v (index_of launch_date v.date) lawful.roll_long roll;
-        room = ltb-false places n last.1.1.0;
+        tables_in = passed.tables;
+        real = real_of v.date passed.date.real;
+        in_time = passed.date.in_time;
+        rate = passed.roll.rate_to;
+        few = few_tranches f t v (index_of launch_date v.date) passed.tables.roll_long passed.roll;
+        room = passed.room;
       }
 
   -- what the code does is the effect

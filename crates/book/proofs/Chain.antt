@@ -2,7 +2,6 @@
 use Rattle.std.proofs.Common.{◌≡◌, ℕ, ◌+◌, ◌-◌, ◌<◌, ◌≤◌, false, T, List, [], ◌∷◌, length, Some, Ok, sym, refl, ap, ◌∙◌, subst, arith, map, is_none}
 use Rattle.std.proofs.lemmas.List.{length-map}
 use Rattle.std.specs.List.{AllByRecursion}
-use Rattle.std.proofs.lemmas.Bool.{leb-false, ltb-false}
 use Rattle.calendar.specs.Days.{is_date, index_of}
 use Rattle.tariff.specs.Meaning.{Meaning}
 use Rattle.book.specs.Lists.{total}
@@ -23,7 +22,8 @@ use Rattle.book.specs.declared.lines.Nature.TheVariants.{Charge, Contribution}
 use Rattle.book.specs.declared.zone.Figures.{Figures}
 use Rattle.book.specs.declared.zone.Event.{Event}
 use Rattle.book.proofs.Totals.{total_map}
-use Rattle.book.proofs.Passing.{accepted_is, inside, real_of}
+use Rattle.book.proofs.Passing.{accepted_is, real_of}
+use Rattle.book.proofs.Passed.{raise_passed, billing_passed, settling_passed}
 use Rattle.book.proofs.Entering.{Shaped, entered_shaped, paid_shaped, paid_tranches, paid_there}
 use Rattle.book.proofs.Amounts.{Sized}
 use Rattle.book.proofs.Growing.{present_grows}
@@ -44,15 +44,16 @@ module _ (m : Meaning) (date op : ℕ) where
   raised_is : (f : Figures) (day : ℕ) (t : Tables) (places to : ℕ) (effect : Effect) →
       billing m f day t places (raise_event date op to) ≡ Ok effect → Raised f day t to effect
   raised_is f day t places to effect e =
-      let a = accepted_is (billing_checks m f day t places (raise_event date op to)) (billing_effect m f day t (raise_event date op to)) effect e in
-      let c = a.0.1.1.1 in
+      let v = raise_event date op to in
+      let (clear, is) = accepted_is (billing_checks m f day t places v) (billing_effect m f day t v) effect e in
+      let passed = billing_passed m f day t places v clear in
       record {
-        above = leb-false to (present_rate op (counted_members f t)) c.1.1.1.1.0;
-        most = (inside 1 to 20 c.1.1.0).1;
-        index = ltb-false 40 (index_of day date) c.0;
-        today = real_of date a.0.1.0;
-        sized = objects_sized f t a.0.0;
-        is = a.1;
+        above = (raise_passed f t v passed.roll.change).above;
+        most = passed.roll.rate_to;
+        index = passed.date.in_time;
+        today = real_of date passed.date.real;
+        sized = objects_sized f t passed.tables;
+        is = is;
       }
 
   -- an accepted share-out of such a raise
@@ -65,18 +66,20 @@ module _ (m : Meaning) (date op : ℕ) where
   settled_is : (f : Figures) (day : ℕ) (t : Tables) (places to : ℕ) (effect : Effect) →
       settling m f day t places (raise_event date op to) ≡ Ok effect → index_of day date ≤ 40 → AllByRecursion Shaped (counted_members f t) → Settled f day t to effect
   settled_is f day t places to effect e few shaped =
-      let a = accepted_is (settling_checks m f day t places (raise_event date op to)) (settling_effect m f day t (raise_event date op to)) effect e in
-      let c = a.0.1 in
+      let v = raise_event date op to in
+      let (clear, is) = accepted_is (settling_checks m f day t places v) (settling_effect m f day t v) effect e in
+      let passed = settling_passed m f day t places v clear in
+      let raised = raise_passed f t v passed.roll.change in
       let xs : List Member = counted_members f t in
       let add : Addition = added f day t (raise_event date op to) in
       let pays : List ℕ → ℕ = λ ts. payout m (added f day t (raise_event date op to)) (whole_weight m (index_of day date) (counted_members f t)) (counted_register f t) ts in
       let roll = settled_counted m f day t (raise_event date op to) in
-      let above = leb-false to (present_rate op (counted_members f t)) c.1.1.1.0 in
-      let there : is_none (member op (credited_members m add (counted_register f t) xs)) ≡ false = paid_there pays op xs ∙ c.1.1.0 in
+      let above = raised.above in
+      let there : is_none (member op (credited_members m add (counted_register f t) xs)) ≡ false = paid_there pays op xs ∙ raised.there in
       let p = present_grows (added f day t (raise_event date op to)) few (credited_members m (added f day t (raise_event date op to)) (counted_register f t) (counted_members f t)) (paid_shaped pays xs shaped) there in
       let q = ap rate_of (paid_tranches pays op xs) in
       let r = ap (present_rate op) roll in
-      subst (Settled f day t to) a.1 (record {
+      subst (Settled f day t to) is (record {
         phase = refl;
         register = refl;
         rate = omega arith;

@@ -1,23 +1,23 @@
 -- What an accepted commitment or raise leaves for its share-out.
-use Rattle.std.proofs.Common.{◌≡◌, ℕ, zero, suc, ◌+◌, ◌≤◌, Bool, true, false, cond, ◌&&◌, eqb, List, [], ◌∷◌, length, get_or, replicate, Some, None, Ok, sym, refl, ap, ◌∙◌, subst, arith, get_or-set_other, get_or-set_same}
+use Rattle.std.proofs.Common.{◌≡◌, ℕ, zero, suc, ◌+◌, ◌≤◌, Bool, true, false, cond, ◌&&◌, eqb, ltb, List, [], ◌∷◌, length, get_or, replicate, Some, None, Ok, sym, refl, ap, ◌∙◌, subst, arith, get_or-set_other, get_or-set_same}
 use Rattle.std.specs.List.{AllByRecursion}
-use Rattle.std.proofs.lemmas.Bool.{eqb-true, eqb-false, ne_eqb, eq-eqb, lt-ltb, le-ltb, ltb-false}
-use Rattle.refusal.specs.Checks.{first, unless}
+use Rattle.std.proofs.lemmas.Bool.{eqb-true, eqb-false, ne_eqb, eq-eqb, lt-ltb, le-ltb}
+use Rattle.refusal.specs.Checks.{unless, then_do, in_turn}
 use Rattle.refusal.specs.declared.Refusal.TheVariants.{StripTooShort}
-use Rattle.calendar.specs.Days.{index_of}
 use Rattle.tariff.specs.Meaning.{Meaning}
 use Rattle.book.specs.Members.{Member, member, tranches_found, Addition, more_tranches, member_subscribed, new_member, entered_members, whole_weight}
 use Rattle.book.specs.Sharing.{payout}
 use Rattle.book.specs.Zone.{Tables, counted_register, counted_members, Effect, dated}
-use Rattle.book.specs.Refusals.{change_checks, roll_checks, price_check, coefficient_check, strip_check}
-use Rattle.book.specs.Answers.{added, billing_checks, billing_effect, billing_lines, settling_lines, settling_checks, settling_effect, settling}
+use Rattle.book.specs.Refusals.{table_checks, change_checks, roll_checks, price_checks, strip_checks}
+use Rattle.book.specs.Answers.{added, billing_checks, billing_effect, settling_lines, settling_checks, settling_effect, settling}
 use Rattle.book.specs.Tally.{credited_members}
 use Rattle.book.specs.Grounds.{SharedOutOr, ShareOutFollows, tranches_in, BilledIsEntered}
 use Rattle.book.specs.declared.zone.Figures.{Figures}
 use Rattle.book.specs.declared.zone.Change.{Change}
 use Rattle.book.specs.declared.zone.Change.TheVariants.{Commitment, Raise}
 use Rattle.book.specs.declared.zone.Event.{Event}
-use Rattle.book.proofs.Passing.{Clear, clear_left, clear_right, first_after, accepted_is}
+use Rattle.book.proofs.Passing.{Clear, AllClear, past, accepted_is}
+use Rattle.book.proofs.Passed.{billing_passed}
 use Rattle.book.proofs.Entering.{Shaped, paid_shaped, paid_tranches}
 use Rattle.book.proofs.Settling.{settled_counted}
 use Rattle.book.proofs.Mirroring.{mirrors, some_added}
@@ -28,22 +28,32 @@ still_clear d f t v Commitment ok = ok
 still_clear d f t v Raise ok = ok
 
 -- after a bill only the strip can turn its share-out down
-only_strip : (m : Meaning) (f : Figures) (day : ℕ) (t : Tables) (places : ℕ) (v : Event) → Clear (billing_checks m f day t places v) → (room : ℕ) →
-    first (settling_checks m (dated v.date f) day t room v) ≡ first (strip_check room (settling_lines m (dated v.date f) day t v) ∷ [])
-only_strip m f day t places v ok room =
-    let rest = ok.1.1.1.1 in
-    let roll : Clear (roll_checks f t v) = clear_left (roll_checks f t v) _ rest in
-    let again : Clear (roll_checks (dated v.date f) t v) = (roll.0, (roll.1.0, still_clear v.date f t v v.change roll.1.1)) in
-    let priced = (clear_right (roll_checks f t v) (price_check m (counted_register f t) ∷ coefficient_check m v.date (counted_register f t) ∷ strip_check places (billing_lines m f day t v) ∷ []) rest).0 in
-    rw ok.0 (first_after (roll_checks (dated v.date f) t v) _ again ∙ first_after (price_check m (counted_register f t) ∷ []) (strip_check room (settling_lines m (dated v.date f) day t v) ∷ []) (priced, tt))
+only_strip : (m : Meaning) (f : Figures) (day : ℕ) (t : Tables) (places : ℕ) (v : Event) → AllClear (billing_checks m f day t places v) → (room : ℕ) (effect : Effect) →
+    in_turn (settling_checks m (dated v.date f) day t room v) effect ≡ in_turn (strip_checks room (length (settling_lines m (dated v.date f) day t v)) ∷ []) effect
+only_strip m f day t places v ok room effect =
+    let (tables, (date, (roll, (sheet, rest)))) = ok in
+    let (operator, (rate, change)) = roll in
+    let (priced, coefficients) = sheet in
+    let again : Clear (roll_checks (dated v.date f) t v) = (operator, (rate, still_clear v.date f t v v.change change)) in
+    let strip = strip_checks room (length (settling_lines m (dated v.date f) day t v)) ∷ [] in
+    past (table_checks f t) (roll_checks (dated v.date f) t v ∷ price_checks m (counted_register f t) ∷ strip) effect tables
+    ∙ past (roll_checks (dated v.date f) t v) (price_checks m (counted_register f t) ∷ strip) effect again
+    ∙ past (price_checks m (counted_register f t)) strip effect (priced, tt)
+
+-- a strip that is too short, and one that is not
+by_strip : {A : Type 0} (room lines : ℕ) (a : A) (b : Bool) → ltb room lines ≡ b →
+    in_turn (strip_checks room lines ∷ []) a ≡ then_do (unless (cond b (Some StripTooShort) None) (tt {0})) (λ _. Ok a)
+by_strip room lines a b is = ap (λ c. then_do (unless (cond c (Some StripTooShort) None) (tt {0})) (λ _. Ok a)) is
 
 pub share_out_follows : ShareOutFollows StripTooShort
 share_out_follows m f day t places v billed e room =
-    let a = accepted_is (billing_checks m f day t places v) (billing_effect m f day t v) billed e in
-    let o = only_strip m f day t places v a.0 room in
-    subst (λ (x : Effect). SharedOutOr StripTooShort m x.state day v room) a.1 (record {
-      short = λ h. ap (λ x. unless x (settling_effect m (billing_effect m f day t v).state.figures day t v)) (o ∙ ap (λ b. cond b (Some StripTooShort) None) (lt-ltb room _ h));
-      enough = λ h. ap (λ x. unless x (settling_effect m (billing_effect m f day t v).state.figures day t v)) (o ∙ ap (λ b. cond b (Some StripTooShort) None) (le-ltb room _ h));
+    let (clear, is) = accepted_is (billing_checks m f day t places v) (billing_effect m f day t v) billed e in
+    let s = (billing_effect m f day t v).state in
+    let effect = settling_effect m s.figures day t v in
+    let o = only_strip m f day t places v clear room effect in
+    subst (λ (x : Effect). SharedOutOr StripTooShort m x.state day v room) is (record {
+      short = λ h. o ∙ by_strip room (length (settling_lines m s.figures day t v)) effect true (lt-ltb room _ h);
+      enough = λ h. o ∙ by_strip room (length (settling_lines m s.figures day t v)) effect false (le-ltb room _ h);
     })
 
 -- tranches of a year index after some are entered
@@ -93,20 +103,20 @@ module _ (a : Addition) (few : a.index ≤ 40) where
 pub billed_is_entered : BilledIsEntered (λ k. k)
 billed_is_entered m law calls s life day phase v places billed e room after e' =
     let M = mirrors m law life in
-    let a = accepted_is (billing_checks m s.figures day s.tables places v) (billing_effect m s.figures day s.tables v) billed e in
+    let (clear, is) = accepted_is (billing_checks m s.figures day s.tables places v) (billing_effect m s.figures day s.tables v) billed e in
+    let passed = billing_passed m s.figures day s.tables places v clear in
     let add : Addition = added s.figures day s.tables v in
-    let few : add.index ≤ 40 = ltb-false 40 (index_of day v.date) a.0.1.1.1.0 in
-    let roll = clear_left (roll_checks s.figures s.tables v) _ a.0.1.1.1.1 in
+    let few : add.index ≤ 40 = passed.date.in_time in
     let shaped : AllByRecursion Shaped (counted_members s.figures s.tables) = subst (AllByRecursion Shaped) (sym M.members) M.bounds.shaped in
-    let h = subst (λ (x : Effect). settling m x.state.figures day x.state.tables room v ≡ Ok after) (sym a.1) e' in
-    let b = accepted_is (settling_checks m (billing_effect m s.figures day s.tables v).state.figures day s.tables room v) (settling_effect m (billing_effect m s.figures day s.tables v).state.figures day s.tables v) after h in
+    let h = subst (λ (x : Effect). settling m x.state.figures day x.state.tables room v ≡ Ok after) (sym is) e' in
+    let (again, done) = accepted_is (settling_checks m (billing_effect m s.figures day s.tables v).state.figures day s.tables room v) (settling_effect m (billing_effect m s.figures day s.tables v).state.figures day s.tables v) after h in
     let pays : List ℕ → ℕ = λ ts. payout m add (whole_weight m add.index (counted_members s.figures s.tables)) (counted_register s.figures s.tables) ts in
     record {
       k = add.tranches;
-      some = some_added s.figures s.tables v roll;
-      lines = ap (λ (x : Effect). x.lines) (sym a.1);
+      some = some_added s.figures s.tables v passed.roll;
+      lines = ap (λ (x : Effect). x.lines) (sym is);
       entered = λ op i.
-          subst (λ (x : Effect). tranches_in (counted_members x.state.figures x.state.tables) op i ≡ tranches_in (counted_members s.figures s.tables) op i + gain add few op i) b.1
+          subst (λ (x : Effect). tranches_in (counted_members x.state.figures x.state.tables) op i ≡ tranches_in (counted_members s.figures s.tables) op i + gain add few op i) done
           (ap (λ xs. tranches_in xs op i) (settled_counted m (billing_effect m s.figures day s.tables v).state.figures day s.tables v) ∙
           entered_in add few op i (credited_members m add (counted_register s.figures s.tables) (counted_members s.figures s.tables)) (paid_shaped pays (counted_members s.figures s.tables) shaped) ∙
           ap (λ ts. get_or ts i 0 + gain add few op i) (paid_tranches pays op (counted_members s.figures s.tables)));

@@ -27,6 +27,7 @@ pub mod Charging
 pub mod Subscribing
 pub mod Joining
 pub mod Admitting
+pub mod Passed
 pub mod Crediting
 pub mod Afterwards
 pub mod Due

@@ -1,15 +1,15 @@
 -- Every call of a life keeps zone and tables as the tally has them, and the tally within its bounds.
-use Rattle.std.proofs.Common.{◌≡◌, ℕ, ◌+◌, ◌-◌, ◌*◌, ◌<◌, ◌≤◌, false, leb, List, [], ◌∷◌, ◌++◌, length, drop, Some, None, Option, sym, refl, ap, ◌∙◌, subst, arith, length-append, length-take, is_none}
+use Rattle.std.proofs.Common.{◌≡◌, ℕ, ◌+◌, ◌-◌, ◌*◌, ◌<◌, ◌≤◌, false, List, [], ◌∷◌, ◌++◌, length, drop, Some, None, Option, sym, refl, ap, ◌∙◌, subst, arith, length-append, length-take, is_none}
 use Rattle.std.proofs.lemmas.List.{length-map}
 use Rattle.std.specs.List.{AllByRecursion}
-use Rattle.std.proofs.lemmas.Bool.{leb-false, ltb-false, or_parts}
 use Rattle.calendar.specs.Days.{index_of}
 use Rattle.tariff.specs.Meaning.{Meaning, Lawful}
-use Rattle.book.specs.Lists.{total, one_of}
+use Rattle.checks.specs.Tables.{one_of}
+use Rattle.book.specs.Lists.{total}
 use Rattle.book.specs.Members.{Member, member_of, members_of, rate_of, member, present_rate, Addition, addition, entered_members, whole_weight}
 use Rattle.book.specs.Sharing.{object_contribution, payout, credits, left_unshared}
 use Rattle.book.specs.Zone.{Tables, counted_roll, counted_register, counted_members, Phase, preparing, launched, levied, State, Answer, state_after}
-use Rattle.book.specs.Refusals.{entry_faults, object_faults, table_faults, date_checks, change_checks, roll_checks}
+use Rattle.book.specs.Refusals.{entry_faults, object_faults, change_checks}
 use Rattle.book.specs.Calls.{Call, commitment, raise, launch, opening, cabling, share_out, commitment_event, raise_event, opened, cabled}
 use Rattle.book.specs.Answers.{subscription_checks, subscription_effect, subscription, subscribed_roll, launching_checks, launching_effect, launching, installation_checks, installed_register, installation_effect, installation, billing_checks, billing_effect, billing, settling_lines, settling_checks, settled_roll, settled_totals, settling_effect, settling}
 use Rattle.book.specs.Tally.{Made, Tally, event_noted, object_noted, credited_members, shared_totals, settled, share_out_noted, noted, fed, tallied}
@@ -23,7 +23,10 @@ use Rattle.book.specs.declared.zone.Change.{Change}
 use Rattle.book.specs.declared.zone.Change.TheVariants.{Commitment, Raise}
 use Rattle.book.specs.declared.zone.Event.{Event}
 use Rattle.book.proofs.Totals.{all_also, all_of, take_front}
-use Rattle.book.proofs.Passing.{Clear, clear_left, clear_right, settles, none_of, all_fail, inside, real_of}
+use Rattle.book.proofs.Passing.{Clear, AllClear, settles, none_of}
+use Rattle.book.proofs.Admitting.{Admitted}
+use Rattle.book.proofs.Passed.{RollPassed, newcomer_passed, raise_passed, SettlingPassed, subscription_passed, installation_passed, billing_passed, settling_passed}
+use Rattle.book.proofs.Soundness.{sound_of, sized_of}
 use Rattle.book.proofs.Entering.{members_entered, entered_balances, entered_length, entered_there, Shaped, entered_shaped, paid_shaped, paid_tranches, paid_there}
 use Rattle.book.proofs.Amounts.{Rated, Sized}
 use Rattle.book.proofs.Holding.{Within}
@@ -69,29 +72,23 @@ Stays m T s c answer = Mirror (fed m (made c answer) T) (state_after s answer)
 
 -- what the checks leave of the entries
 rated_entry : (e : RollEntry) → one_of (entry_faults e) ≡ false → Rated (member_of e)
-rated_entry e h = (inside 1 (rate_of e.tranches) 20 (all_fail (entry_faults e) h).1.0).1
-
-sized_object : (o : RegisterEntry) → one_of (object_faults o) ≡ false → Sized o
-sized_object o h = ((inside 1 o.dwellings 10000 (all_fail (object_faults o) h).1.1.0).1, real_of o.installed (all_fail (object_faults o) h).1.0)
+rated_entry e h = (sound_of e h).rate
 
 module _ (f : Figures) (t : Tables) where
-  pub members_rated : one_of (table_faults f t) ≡ false → AllByRecursion Rated (counted_members f t)
-  members_rated ok = all_of Rated member_of (counted_roll f t) (all_also rated_entry (counted_roll f t) (none_of (λ e. one_of (entry_faults e)) (counted_roll f t) (all_fail (table_faults f t) ok).1.1.0))
+  pub members_rated : Admitted f t → AllByRecursion Rated (counted_members f t)
+  members_rated lawful = all_of Rated member_of (counted_roll f t) (all_also rated_entry (counted_roll f t) (none_of (λ e. one_of (entry_faults e)) (counted_roll f t) lawful.entries_sound))
 
-  pub objects_sized : one_of (table_faults f t) ≡ false → AllByRecursion Sized (counted_register f t)
-  objects_sized ok = all_also sized_object (counted_register f t) (none_of (λ o. one_of (object_faults o)) (counted_register f t) (all_fail (table_faults f t) ok).1.1.1.0)
-
-  pub rate_given : (v : Event) → Clear (roll_checks f t v) → (1 ≤ v.rate) × (v.rate ≤ 20)
-  rate_given v ok = inside 1 v.rate 20 ok.1.0
+  pub objects_sized : Admitted f t → AllByRecursion Sized (counted_register f t)
+  objects_sized lawful = all_also sized_of (counted_register f t) (none_of (λ o. one_of (object_faults o)) (counted_register f t) lawful.objects_sound)
 
   -- an event that passes adds something
-  pub some_added : (v : Event) → Clear (roll_checks f t v) → 0 < v.rate - present_rate v.operator (counted_members f t)
-  some_added v ok = go v.change ok.1.1
+  pub some_added : (v : Event) → RollPassed f t v → 0 < v.rate - present_rate v.operator (counted_members f t)
+  some_added v passed = go v.change passed.change
     where
       go : (change : Change) → Clear (change_checks change f t v) → 0 < v.rate - present_rate v.operator (counted_members f t)
       go Commitment c =
-          let z = stranger (member v.operator (counted_members f t)) c.0 in let r = rate_given v ok in omega arith
-      go Raise c = let r = leb-false v.rate (present_rate v.operator (counted_members f t)) c.1.0 in omega arith
+          let z = stranger (member v.operator (counted_members f t)) (newcomer_passed f t v c).new in let r = passed.rate_from in omega arith
+      go Raise c = let r = (raise_passed f t v c).above in omega arith
 
   pub length_counted : length (counted_members f t) ≤ f.operators
   length_counted = let l = length-map (counted_roll f t) member_of in let k = length-take f.operators t.roll in omega arith
@@ -99,15 +96,15 @@ module _ (f : Figures) (t : Tables) where
   -- an event that passes leaves at most 16 operators
   pub short_enough : (v : Event) (a : Addition) → a.operator ≡ v.operator → (xs : List Member) → length xs ≡ length (counted_members f t) →
       is_none (member v.operator xs) ≡ is_none (member v.operator (counted_members f t)) →
-      length (counted_members f t) ≤ 16 → Clear (roll_checks f t v) → length (entered_members a xs) ≤ 16
-  short_enough v a same xs long there few ok = go v.change ok.1.1
+      length (counted_members f t) ≤ 16 → RollPassed f t v → length (entered_members a xs) ≤ 16
+  short_enough v a same xs long there few passed = go v.change passed.change
     where
       go : (change : Change) → Clear (change_checks change f t v) → length (entered_members a xs) ≤ 16
       go Commitment c =
-          let free = leb-false 16 f.operators (or_parts (leb 16 f.operators) (leb (length t.roll) f.operators) c.1.0).0 in
+          let free = (newcomer_passed f t v c).few in
           let k = length_counted in let l = entered_length a xs in omega arith
       go Raise c =
-          let l = entered_there a xs (ap (λ n. is_none (member n xs)) same ∙ there ∙ c.0) in omega arith
+          let l = entered_there a xs (ap (λ n. is_none (member n xs)) same ∙ there ∙ (raise_passed f t v c).there) in omega arith
 
 -- the answer that a phase gives
 pub given_is : {A : Type 0} (x y : A) → Some x ≡ Some y → x ≡ y
@@ -121,13 +118,14 @@ totals_same a b p q r s = λ i. record { contributed = p i; credited = q i; unsh
 
 module _ (m : Meaning) (law : Lawful m) (T : Tally) (f : Figures) (t : Tables) (places : ℕ) where
   -- tranches entered before the launch
-  subscription_mirrors : (v : Event) → Mirror T (record { figures = f; phase = preparing; tables = t }) → Clear (subscription_checks f t v) →
+  subscription_mirrors : (v : Event) → Mirror T (record { figures = f; phase = preparing; tables = t }) → AllClear (subscription_checks f t v) →
       Mirror (event_noted v None T) (subscription_effect f t v).state
   subscription_mirrors v M ok =
       let a : Addition = addition 0 v T.members in
       let B = M.bounds in
-      let passes : Clear (roll_checks f t v) = clear_right (date_checks f v.date) (roll_checks f t v) ok.1 in
-      let given = rate_given f t v passes in
+      let passes = (subscription_passed f t v ok).roll in
+      let from = passes.rate_from in
+      let to = passes.rate_to in
       let same : members_of (subscribed_roll f t v) ≡ entered_members a T.members =
       members_entered (addition 0 v (counted_members f t)) (counted_roll f t) ∙ ap (λ xs. entered_members (addition 0 v xs) xs) M.members in
       let counted : length (subscribed_roll f t v) ≡ length (entered_members a T.members) = sym (length-map (subscribed_roll f t v) member_of) ∙ ap length same in
@@ -185,7 +183,7 @@ module _ (m : Meaning) (law : Lawful m) (T : Tally) (f : Figures) (t : Tables) (
       settles (installation_checks m f day t places o) (installation_effect m f day t o) (Stays m T (record { figures = f; phase = launched day; tables = t }) c) (λ r. M)
       (λ ok.
       let B = M.bounds in
-      let free = leb-false 1024 f.objects (or_parts (leb 1024 f.objects) (leb (length t.register) f.objects) ok.1.1.1.1.1.1.0).0 in
+      let free = (installation_passed m f day t places o ok).register.few in
       let n = length-append T.objects (o ∷ []) in
       let k = M.objects_counted in
       subst (λ (U : Tally). Mirror U (installation_effect m f day t o).state) (sym same) (record {
@@ -212,12 +210,12 @@ module _ (m : Meaning) (law : Lawful m) (T : Tally) (f : Figures) (t : Tables) (
         objects_counted = M.objects_counted;
         totals = M.totals;
         phase = (refl, refl);
-        in_time = ltb-false 40 (index_of day v.date) ok.1.1.1.0;
+        in_time = (billing_passed m f day t places v ok).date.in_time;
         bounds = record { few = B.few; few_objects = B.few_objects; shaped = B.shaped; rated = B.rated; credited = B.credited; contributed = B.contributed; lines = B.lines; within = B.within };
       }))
 
   -- a share-out
-  module _ (day : ℕ) (v : Event) (M : Mirror T (record { figures = f; phase = levied day v; tables = t })) (ok : Clear (settling_checks m f day t places v)) where
+  module _ (day : ℕ) (v : Event) (M : Mirror T (record { figures = f; phase = levied day v; tables = t })) (ok : SettlingPassed m f day t places v) where
     abbrev now_added : Addition
     now_added = addition (index_of day v.date) v T.members
 
@@ -226,9 +224,6 @@ module _ (m : Meaning) (law : Lawful m) (T : Tally) (f : Figures) (t : Tables) (
 
     abbrev roll_from : List Member → List RegisterEntry → List Member
     roll_from xs os = entered_members (addition (index_of day v.date) v xs) (credited_members m (addition (index_of day v.date) v xs) os xs)
-
-    passes : Clear (roll_checks f t v)
-    passes = clear_left (roll_checks f t v) _ ok.1
 
     same_members : members_of (settled_roll m f day t v) ≡ roll_from T.members T.objects
     same_members =
@@ -270,10 +265,11 @@ module _ (m : Meaning) (law : Lawful m) (T : Tally) (f : Figures) (t : Tables) (
     settled_bounds : Bounds (settled m now_added T)
     settled_bounds =
         let B = M.bounds in
-        let given = rate_given f t v passes in
-        let some : 0 < now_added.tranches = subst (λ (xs : List Member). 0 < v.rate - present_rate v.operator xs) M.members (some_added f t v passes) in
+        let from = ok.roll.rate_from in
+        let to = ok.roll.rate_to in
+        let some : 0 < now_added.tranches = subst (λ (xs : List Member). 0 < v.rate - present_rate v.operator xs) M.members (some_added f t v ok.roll) in
         let few : now_added.tranches ≤ 20 = omega arith in
-        let sized : AllByRecursion Sized T.objects = subst (AllByRecursion Sized) M.objects (objects_sized f t ok.0) in
+        let sized : AllByRecursion Sized T.objects = subst (AllByRecursion Sized) M.objects (objects_sized f t ok.tables) in
         let grow = rates_grow now_added M.in_time (credited_members m now_added T.objects T.members) (paid_shaped (λ ts. payout m now_added whole T.objects ts) T.members B.shaped) in
         let keep = paid_rates (λ ts. payout m now_added whole T.objects ts) T.members in
         let bal = balances_grow m law now_added few T.objects sized T.members in
@@ -286,7 +282,7 @@ module _ (m : Meaning) (law : Lawful m) (T : Tally) (f : Figures) (t : Tables) (
           few = short_enough f t v now_added refl (credited_members m now_added T.objects T.members)
               (length-map T.members _ ∙ ap length (sym M.members))
               (paid_there (λ ts. payout m now_added whole T.objects ts) v.operator T.members ∙ ap (λ xs. is_none (member v.operator xs)) (sym M.members))
-              (let l = ap length M.members in let q = B.few in omega arith) passes;
+              (let l = ap length M.members in let q = B.few in omega arith) ok.roll;
           few_objects = B.few_objects;
           shaped = entered_shaped now_added _ (paid_shaped (λ ts. payout m now_added whole T.objects ts) T.members B.shaped);
           rated = rated_stays now_added M.in_time (credited_members m now_added T.objects T.members) (paid_shaped (λ ts. payout m now_added whole T.objects ts) T.members B.shaped) (paid_rated (λ ts. payout m now_added whole T.objects ts) T.members B.rated) (omega arith);
@@ -314,7 +310,7 @@ module _ (m : Meaning) (law : Lawful m) (T : Tally) (f : Figures) (t : Tables) (
       settles (settling_checks m f day t places v) (settling_effect m f day t v) (Stays m T (record { figures = f; phase = levied day v; tables = t }) share_out) (λ r. M)
       (λ ok. subst (λ (U : Tally). Mirror U (settling_effect m f day t v).state)
       (sym (ap (λ d. share_out_noted m d T.event T) M.phase.0 ∙ ap (λ e. share_out_noted m (Some day) e T) M.phase.1))
-      (settling_mirrors day v M ok))
+      (settling_mirrors day v M (settling_passed m f day t places v ok)))
 
   step_event : (c : Call) (v : Event) → noted m c T ≡ event_noted v T.launch_date T → (p : Phase) (answer : Answer) → answer_to_event m f t places v p ≡ Some answer →
       Mirror T (record { figures = f; phase = p; tables = t }) → Stays m T (record { figures = f; phase = p; tables = t }) c answer

@@ -1,18 +1,20 @@
 -- How large the numbers of a life can grow.
 use Rattle.std.proofs.Common.{◌≡◌, ℕ, zero, suc, ◌+◌, ◌*◌, ◌<◌, ◌≤◌, Bool, true, false, cond, T, eqb, List, [], ◌∷◌, length, Some, Ok, sym, refl, ap, subst, add-mul, mul-le-mul, lt_of_mul-lt-mul_right, one-mul, arith, length-take, flat_map, map}
 use Rattle.std.specs.List.{AllByRecursion}
-use Rattle.std.proofs.lemmas.Bool.{ltb-false, eqb-true, eqb-false}
+use Rattle.std.proofs.lemmas.Bool.{eqb-true, eqb-false}
 use Rattle.calendar.specs.Days.{is_date}
 use Rattle.tariff.specs.Meaning.{Meaning, Lawful, CoefficientLimits}
 use Rattle.tariff.specs.declared.kinds.Kind.{Kind}
+use Rattle.checks.specs.Numbers.{most_dwellings}
 use Rattle.book.specs.Limits.{most_amount}
-use Rattle.book.specs.Lists.{total, one_of}
+use Rattle.checks.specs.Tables.{one_of}
+use Rattle.book.specs.Lists.{total}
 use Rattle.book.specs.Lines.{line}
 use Rattle.book.specs.Members.{Member, member_of, rate_of, weight_to, whole_weight, Addition, entered_members, member_subscribed}
 use Rattle.book.specs.Billing.{price_at, coefficient_at, earlier, unit_price, unit_contribution, billed, bill, charged}
 use Rattle.book.specs.Sharing.{to_share, serves, unit_share, credit, credits, object_contribution, payout, share_of}
 use Rattle.book.specs.Zone.{Tables, counted_roll, counted_register, counted_members, Phase, preparing, launched, levied, Effect}
-use Rattle.book.specs.Refusals.{roll_checks, entry_faults, table_faults}
+use Rattle.book.specs.Refusals.{entry_faults}
 use Rattle.book.specs.Calls.{Call, commitment, raise, launch, opening, cabling, share_out, commitment_event, raise_event, opened, cabled}
 use Rattle.book.specs.Answers.{subscription_checks, subscription_effect, subscription, launching_checks, launching_effect, launching, installation_checks, installation_effect, installation, added, billing_checks, billing_effect, billing, settling_checks, settling_effect, settling}
 use Rattle.book.specs.Tally.{tallied}
@@ -27,14 +29,16 @@ use Rattle.book.specs.declared.zone.Totals.{Totals}
 use Rattle.book.specs.declared.zone.Figures.{Figures}
 use Rattle.book.specs.declared.zone.Event.{Event}
 use Rattle.book.proofs.Totals.{all_of, all_also, all_flat_map, parts_most, total_most, total_map, total_swap}
-use Rattle.book.proofs.Passing.{clear_left, accepted_is, inside, real_of, all_fail, none_of}
+use Rattle.book.proofs.Passing.{accepted_is, inside, real_of, none_of}
+use Rattle.book.proofs.Passed.{installation_passed, billing_passed, settling_passed}
+use Rattle.book.proofs.Soundness.{sound_of}
 use Rattle.book.proofs.Entering.{Shaped, paid}
 use Rattle.book.proofs.Amounts.{Rated, Sized, price_most, unit_most, amount_most, weights_most}
 use Rattle.book.proofs.Cutting.{limits_of}
 use Rattle.book.proofs.Growing.{rates_of}
 use Rattle.book.proofs.Sharing.{shares_all, credits_total, credits_count, shares_within, none_shared_all}
 use Rattle.book.proofs.Settling.{settled_counted, contributed_most, dues_most}
-use Rattle.book.proofs.Mirroring.{mirrors, members_rated, objects_sized, rate_given, given_is, none_given, length_counted}
+use Rattle.book.proofs.Mirroring.{mirrors, members_rated, objects_sized, given_is, none_given, length_counted}
 
 abbrev pub Fits : Line → Type 0
 Fits l = (l.unit ≤ most_amount) × (l.total ≤ most_amount)
@@ -119,23 +123,27 @@ credits_fit m law a few os sized xs shaped rated short =
 module _ (m : Meaning) (law : Lawful m) (f : Figures) (t : Tables) (places : ℕ) (shaped : AllByRecursion Shaped (counted_members f t)) (short : length (counted_members f t) ≤ 16) where
   pub billing_fits : (day : ℕ) (v : Event) (effect : Effect) → billing m f day t places v ≡ Ok effect → AllByRecursion Fits effect.lines
   billing_fits day v effect e =
-      let a = accepted_is (billing_checks m f day t places v) (billing_effect m f day t v) effect e in
-      let given = rate_given f t v (clear_left (roll_checks f t v) _ a.0.1.1.1.1) in
-      subst (λ (x : Effect). AllByRecursion Fits x.lines) a.1
-      (bill_fits m law (added f day t v) (omega arith) (real_of v.date a.0.1.0) (counted_register f t) (objects_sized f t a.0.0))
+      let (clear, is) = accepted_is (billing_checks m f day t places v) (billing_effect m f day t v) effect e in
+      let passed = billing_passed m f day t places v clear in
+      let to = passed.roll.rate_to in
+      subst (λ (x : Effect). AllByRecursion Fits x.lines) is
+      (bill_fits m law (added f day t v) (omega arith) (real_of v.date passed.date.real) (counted_register f t) (objects_sized f t passed.tables))
 
   pub installation_fits : (day : ℕ) (o : RegisterEntry) (effect : Effect) → installation m f day t places o ≡ Ok effect → AllByRecursion Fits effect.lines
   installation_fits day o effect e =
-      let a = accepted_is (installation_checks m f day t places o) (installation_effect m f day t o) effect e in
-      subst (λ (x : Effect). AllByRecursion Fits x.lines) a.1
-      (charged_fits m law o ((inside 1 o.dwellings 10000 a.0.1.1.1.1.1.0).1, real_of o.installed a.0.1.0) (counted_members f t) (members_rated f t a.0.0))
+      let (clear, is) = accepted_is (installation_checks m f day t places o) (installation_effect m f day t o) effect e in
+      let passed = installation_passed m f day t places o clear in
+      let (from, to) = inside 1 o.dwellings most_dwellings passed.register.dwellings in
+      subst (λ (x : Effect). AllByRecursion Fits x.lines) is
+      (charged_fits m law o (to, real_of o.installed passed.date.real) (counted_members f t) (members_rated f t passed.tables))
 
   pub settling_fits : (day : ℕ) (v : Event) (effect : Effect) → settling m f day t places v ≡ Ok effect → AllByRecursion Fits effect.lines
   settling_fits day v effect e =
-      let a = accepted_is (settling_checks m f day t places v) (settling_effect m f day t v) effect e in
-      let given = rate_given f t v (clear_left (roll_checks f t v) _ a.0.1) in
-      subst (λ (x : Effect). AllByRecursion Fits x.lines) a.1
-      (credits_fit m law (added f day t v) (omega arith) (counted_register f t) (objects_sized f t a.0.0) (counted_members f t) shaped (members_rated f t a.0.0) short)
+      let (clear, is) = accepted_is (settling_checks m f day t places v) (settling_effect m f day t v) effect e in
+      let passed = settling_passed m f day t places v clear in
+      let to = passed.roll.rate_to in
+      subst (λ (x : Effect). AllByRecursion Fits x.lines) is
+      (credits_fit m law (added f day t v) (omega arith) (counted_register f t) (objects_sized f t passed.tables) (counted_members f t) shaped (members_rated f t passed.tables) short)
 
   subscription_fits : (v : Event) (effect : Effect) → subscription f t v ≡ Ok effect → AllByRecursion Fits effect.lines
   subscription_fits v effect e =
@@ -211,8 +219,8 @@ all_under : {A B : Type 0} (P : B → Type 0) (f : A → B) (xs : List A) → Al
 all_under P f [] h = tt
 all_under P f (x ∷ xs) h = (h.0, all_under P f xs h.1)
 
-balance_fits : (e : RollEntry) → one_of (entry_faults e) ≡ false → e.balance ≤ 4000000000000000000
-balance_fits e h = ltb-false 4000000000000000000 e.balance (all_fail (entry_faults e) h).1.1.0
+balance_fits : (e : RollEntry) → one_of (entry_faults e) ≡ false → e.balance ≤ most_amount
+balance_fits e h = (sound_of e h).held
 
 -- what all share-outs of an event credit together
 shares_most : (m : Meaning) → Lawful m → (a : Addition) → a.tranches ≤ 20 → (os : List RegisterEntry) → AllByRecursion Sized os → length os ≤ 1024 →
@@ -234,22 +242,22 @@ unshared_most false n = omega arith
 
 pub every_share_out_fits : EveryShareOutFits 5000000000000000000
 every_share_out_fits m law f day t places v effect few_operators few_objects long_enough e =
-    let a = accepted_is (settling_checks m f day t places v) (settling_effect m f day t v) effect e in
+    let (clear, is) = accepted_is (settling_checks m f day t places v) (settling_effect m f day t v) effect e in
+    let passed = settling_passed m f day t places v clear in
     let add : Addition = added f day t v in
     let os : List RegisterEntry = counted_register f t in
     let xs : List Member = counted_members f t in
-    let given = rate_given f t v (clear_left (roll_checks f t v) _ a.0.1) in
+    let to = passed.roll.rate_to in
     let few : (added f day t v).tranches ≤ 20 = omega arith in
-    let sized = objects_sized f t a.0.0 in
-    let rated = members_rated f t a.0.0 in
+    let sized = objects_sized f t passed.tables in
+    let rated = members_rated f t passed.tables in
     let shaped : AllByRecursion Shaped (counted_members f t) = all_of Shaped member_of (counted_roll f t) long_enough in
     let short : length (counted_members f t) ≤ 16 = let l = length_counted f t in omega arith in
     let long : length (counted_register f t) ≤ 1024 = let l = length-take f.objects t.register in omega arith in
-    let faults = (all_fail (table_faults f t) a.0.0).1.1.1.1.1.1.1.1 in
-    let c0 = ltb-false 4000000000000000000 f.totals.contributed faults.0 in
-    let d0 = ltb-false 4000000000000000000 f.totals.credited faults.1.0 in
-    let u0 = ltb-false 4000000000000000000 f.totals.unshared faults.1.1.0 in
-    let l0 = ltb-false 4000000000000000000 f.totals.credit_lines faults.1.1.1.0 in
+    let c0 = passed.tables.contributed in
+    let d0 = passed.tables.credited in
+    let u0 = passed.tables.unshared in
+    let l0 = passed.tables.credit_lines in
     let c1 = contributed_most m law add few (counted_register f t) sized long in
     let s1 = shares_most m law (added f day t v) few (counted_register f t) sized long (counted_members f t) shaped rated short in
     let t1 = credits_total m (added f day t v) (counted_register f t) (counted_members f t) in
@@ -260,14 +268,14 @@ every_share_out_fits m law f day t places v effect few_operators few_objects lon
     let swap = total_swap (λ x o. share_of m (added f day t v) (whole_weight m (added f day t v).index (counted_members f t)) o x.tranches) (counted_members f t) (counted_register f t) in
     let each_pay : AllByRecursion (λ x. pays x.tranches ≤ 1000000000000000000) (counted_members f t) =
     parts_most (λ x. payout m (added f day t v) (whole_weight m (added f day t v).index (counted_members f t)) (counted_register f t) x.tranches) 1000000000000000000 (counted_members f t) (omega arith) in
-    let each_balance : AllByRecursion (λ x. x.balance ≤ 4000000000000000000) (counted_members f t) =
-    all_of (λ x. x.balance ≤ 4000000000000000000) member_of (counted_roll f t) (all_also balance_fits (counted_roll f t) (none_of (λ e. one_of (entry_faults e)) (counted_roll f t) (all_fail (table_faults f t) a.0.0).1.1.0)) in
-    subst (λ (x : Effect). AmountsFit 5000000000000000000 x.state) a.1 (record {
+    let each_balance : AllByRecursion (λ x. x.balance ≤ most_amount) (counted_members f t) =
+    all_of (λ x. x.balance ≤ most_amount) member_of (counted_roll f t) (all_also balance_fits (counted_roll f t) (none_of (λ e. one_of (entry_faults e)) (counted_roll f t) passed.tables.entries_sound)) in
+    subst (λ (x : Effect). AmountsFit 5000000000000000000 x.state) is (record {
       contributed = omega arith;
       credited = omega arith;
       unshared = omega arith;
       credit_lines = omega arith;
       balances = all_under (λ x. x.balance ≤ 5000000000000000000) member_of _
           (subst (AllByRecursion (λ x. x.balance ≤ 5000000000000000000)) (sym (settled_counted m f day t v))
-          (entered_most add 5000000000000000000 _ (paid_balances pays 4000000000000000000 1000000000000000000 (counted_members f t) each_balance each_pay)));
+          (entered_most add 5000000000000000000 _ (paid_balances pays most_amount 1000000000000000000 (counted_members f t) each_balance each_pay)));
     })

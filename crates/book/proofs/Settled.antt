@@ -1,74 +1,44 @@
 -- What passed checks tell of a levy that is shared out, and what sharing it out leads to.
-use Rattle.std.proofs.Common.{◌≡◌, ℕ, ◌+◌, ◌≤◌, ltb, List, [], ◌∷◌, ◌++◌, length, take, Ok, Result, sym, ap, ◌∙◌, subst, arith}
+use Rattle.std.proofs.Common.{◌≡◌, ℕ, ◌+◌, ◌≤◌, List, length, take, Ok, sym, ap, ◌∙◌, subst, arith}
 use Rattle.std.proofs.lemmas.List.{take_at}
-use Rattle.std.proofs.lemmas.Bool.{ltb-false}
-use Rattle.refusal.specs.Checks.{Check, ◌⇒◌, passing, in_turn}
-use Rattle.refusal.specs.declared.Refusal.{Refusal}
-use Rattle.refusal.specs.declared.Refusal.TheVariants.{StripTooShort}
-use Rattle.refusal.proofs.First.{in_turn_is}
+use Rattle.refusal.specs.Checks.{in_turn}
 use Rattle.calendar.specs.Days.{index_of}
 use Rattle.tariff.specs.Meaning.{Meaning}
+use Rattle.checks.specs.Numbers.{most_tranches}
+use Rattle.book.specs.Limits.{most_operators}
 use Rattle.book.specs.Lists.{total, written}
 use Rattle.book.specs.Members.{Addition, entered_roll}
 use Rattle.book.specs.Sharing.{object_contribution, credits, left_unshared}
 use Rattle.book.specs.Zone.{Tables, counted_roll, counted_register, counted_members, launched, Effect}
-use Rattle.book.specs.Refusals.{tables_check, roll_checks, price_check, table_faults}
 use Rattle.book.specs.Answers.{added, credited_roll, settling_lines, settling_checks, settling_effect}
-use Rattle.book.specs.Increases.{lines_shared}
 use Rattle.book.specs.declared.entries.RollEntry.{RollEntry}
 use Rattle.book.specs.declared.lines.Line.{Line}
 use Rattle.book.specs.declared.zone.Totals.{Totals}
 use Rattle.book.specs.declared.zone.Figures.{Figures}
 use Rattle.book.specs.declared.zone.Event.{Event}
-use Rattle.book.proofs.Passing.{clear_left, clear_right, accepted_is, all_fail}
-use Rattle.book.proofs.Admitting.{Admitted, admitted}
-use Rattle.book.proofs.Joining.{few_tranches, finds_place}
-use Rattle.book.proofs.Due.{counted_credits}
+use Rattle.book.proofs.Passing.{accepted_is}
+use Rattle.book.proofs.Admitting.{Admitted}
+use Rattle.book.proofs.Passed.{settling_passed}
+use Rattle.book.proofs.Joining.{Fits, few_tranches, finds_place}
 
 module _ (m : Meaning) (f : Figures) (launch_date : ℕ) (t : Tables) (places : ℕ) (v : Event) where
-  abbrev due_with : Addition → ℕ
-  due_with a = lines_shared m a (counted_register f t) (counted_members f t)
-
-  -- the checks by place, with a number of lines
-  abbrev sheet_and_strip : ℕ → List Check
-  sheet_and_strip lines = price_check m (counted_register f t) ∷ (ltb places lines ⇒ StripTooShort) ∷ []
-
-  abbrev turns : ℕ → List (List Check)
-  turns lines = roll_checks f t v ∷ (price_check m (counted_register f t) ∷ []) ∷ ((ltb places lines ⇒ StripTooShort) ∷ []) ∷ []
-
-  pub turned : (r : Result (Unit {0}) Refusal) → r ≡ in_turn (tables_check f t ∷ []) (turns (due_with (added f launch_date t v))) → passing (settling_checks m f launch_date t places v) ≡ r
-  turned r answer =
-      ap (λ n. passing (tables_check f t ∷ (roll_checks f t v ++ sheet_and_strip n))) (counted_credits m (added f launch_date t v) (counted_register f t) (counted_members f t))
-      ∙ sym (in_turn_is (tables_check f t ∷ []) (turns (due_with (added f launch_date t v))))
-      ∙ sym answer
-
   pub record Settleable : Type 0 where
     pub tables_in : Admitted f t
-    pub few : (added f launch_date t v).tranches ≤ 20
-    pub fits : (length (entered_roll (added f launch_date t v) (counted_roll f t)) ≤ 16) × (length (entered_roll (added f launch_date t v) (counted_roll f t)) ≤ length t.roll)
+    pub rate : v.rate ≤ most_tranches
+    pub few : (added f launch_date t v).tranches ≤ most_tranches
+    pub fits : Fits f t v (index_of launch_date v.date) tables_in.roll_long
     pub room : length (settling_lines m f launch_date t v) ≤ places
-    pub contributed : f.totals.contributed ≤ 4000000000000000000
-    pub credited : f.totals.credited ≤ 4000000000000000000
-    pub unshared : f.totals.unshared ≤ 4000000000000000000
-    pub credit_lines : f.totals.credit_lines ≤ 4000000000000000000
 
-  pub settleable : (u : Unit {0}) → f.operators ≤ 16 → passing (settling_checks m f launch_date t places v) ≡ Ok u → Settleable
+  pub settleable : (u : Unit {0}) → f.operators ≤ most_operators → in_turn (settling_checks m f launch_date t places v) tt ≡ Ok u → Settleable
   settleable u few passes =
-      let n = length (settling_lines m f launch_date t v) in
-      let all = (accepted_is (settling_checks m f launch_date t places v) tt u passes).0 in
-      let lawful = admitted f t all.0 in
-      let roll = clear_left (roll_checks f t v) (sheet_and_strip n) all.1 in
-      let last = clear_right (roll_checks f t v) (sheet_and_strip n) all.1 in
-      let faults = (all_fail (table_faults f t) all.0).1.1.1.1.1.1.1.1 in
+      let (clear, is) = accepted_is (settling_checks m f launch_date t places v) tt u passes in
+      let passed = settling_passed m f launch_date t places v clear in
       record {
-        tables_in = lawful;
-        few = few_tranches f t v (index_of launch_date v.date) lawful.roll_long roll;
-        fits = finds_place f t v (index_of launch_date v.date) lawful.roll_long roll few;
-        room = ltb-false places n last.1.0;
-        contributed = ltb-false 4000000000000000000 f.totals.contributed faults.0;
-        credited = ltb-false 4000000000000000000 f.totals.credited faults.1.0;
-        unshared = ltb-false 4000000000000000000 f.totals.unshared faults.1.1.0;
-        credit_lines = ltb-false 4000000000000000000 f.totals.credit_lines faults.1.1.1.0;
+        tables_in = passed.tables;
+        rate = passed.roll.rate_to;
+        few = few_tranches f t v (index_of launch_date v.date) passed.tables.roll_long passed.roll;
+        fits = finds_place f t v (index_of launch_date v.date) passed.tables.roll_long passed.roll few;
+        room = passed.room;
       }
 
   -- what the code does is the effect
@@ -137,7 +107,7 @@ module _ (m : Meaning) (f : Figures) (launch_date : ℕ) (t : Tables) (places : 
   room_for a is room = subst (λ x. length (credits m x (counted_register f t) (counted_members f t)) ≤ places) (sym is) room
 
   -- the credits leave the number of entries
-  pub few_entered : (a : Addition) (count : ℕ) → a ≡ added f launch_date t v → length (entered_roll (added f launch_date t v) (counted_roll f t)) ≤ 16 → count ≡ length (entered_roll a (credited_roll m a (counted_register f t) (counted_roll f t))) → length (entered_roll a (credited_roll m a (counted_register f t) (counted_roll f t))) ≡ length (entered_roll a (counted_roll f t)) → count ≤ 16
+  pub few_entered : (a : Addition) (count : ℕ) → a ≡ added f launch_date t v → length (entered_roll (added f launch_date t v) (counted_roll f t)) ≤ most_operators → count ≡ length (entered_roll a (credited_roll m a (counted_register f t) (counted_roll f t))) → length (entered_roll a (credited_roll m a (counted_register f t) (counted_roll f t))) ≡ length (entered_roll a (counted_roll f t)) → count ≤ most_operators
   few_entered a count is few counted same =
-      let here : length (entered_roll a (counted_roll f t)) ≤ 16 = subst (λ x. length (entered_roll x (counted_roll f t)) ≤ 16) (sym is) few in
+      let here : length (entered_roll a (counted_roll f t)) ≤ most_operators = subst (λ x. length (entered_roll x (counted_roll f t)) ≤ most_operators) (sym is) few in
       omega (arith, counted, same, here)

@@ -3,24 +3,28 @@ use Rattle.std.proofs.Common.{◌≡◌, ℕ, ◌<◌, ◌≤◌, false, List, l
 use Rattle.std.specs.List.{AllByRecursion, list_any}
 use Rattle.std.proofs.ByRecursion.{All-get_or}
 use Rattle.std.proofs.lemmas.Bool.{ltb-false}
-use Rattle.book.specs.Lists.{one_of}
+use Rattle.checks.specs.Numbers.{most_tranches, most_dwellings}
+use Rattle.checks.specs.Tables.{one_of}
+use Rattle.checks.proofs.GoodTables.{all_fail}
+use Rattle.book.specs.Limits.{most_amount}
 use Rattle.book.specs.Members.{rate_of}
 use Rattle.book.specs.Refusals.{entry_faults, object_faults}
 use Rattle.book.specs.declared.entries.RollEntry.{RollEntry}
 use Rattle.book.specs.declared.entries.RegisterEntry.{RegisterEntry}
-use Rattle.book.proofs.Passing.{none_of, all_fail, inside, real_of}
+use Rattle.book.proofs.Passing.{none_of, inside, real_of}
 use Rattle.book.proofs.Totals.{all_also}
 use Rattle.book.proofs.Amounts.{Sized}
 
 -- an operator of 1 to 20 tranches, with a balance that is not too large
 pub record Sound (e : RollEntry) : Type 0 where
-  pub rate : rate_of e.tranches ≤ 20
-  pub held : e.balance ≤ 4000000000000000000
+  pub rate : rate_of e.tranches ≤ most_tranches
+  pub held : e.balance ≤ most_amount
 
 pub sound_of : (e : RollEntry) → one_of (entry_faults e) ≡ false → Sound e
 sound_of e h =
-    let f = all_fail (entry_faults e) h in
-    record { rate = (inside 1 (rate_of e.tranches) 20 f.1.0).1; held = ltb-false 4000000000000000000 e.balance f.1.1.0 }
+    let (number, (rate, (held, end))) = all_fail (entry_faults e) h in
+    let (from, to) = inside 1 (rate_of e.tranches) most_tranches rate in
+    record { rate = to; held = ltb-false most_amount e.balance held }
 
 pub all_sound : (roll : List RollEntry) → list_any (λ e. one_of (entry_faults e)) roll ≡ false → AllByRecursion Sound roll
 all_sound roll h = all_also sound_of roll (none_of (λ e. one_of (entry_faults e)) roll h)
@@ -30,4 +34,5 @@ sound_at roll h i d l = All-get_or Sound roll i d l (all_sound roll h)
 
 pub sized_of : (o : RegisterEntry) → one_of (object_faults o) ≡ false → Sized o
 sized_of o h =
-    let f = all_fail (object_faults o) h in ((inside 1 o.dwellings 10000 f.1.1.0).1, real_of o.installed f.1.0)
+    let (number, (day, (dwellings, end))) = all_fail (object_faults o) h in
+    let (from, to) = inside 1 o.dwellings most_dwellings dwellings in (to, real_of o.installed day)

@@ -8,7 +8,7 @@ use Rattle.std.proofs.lemmas.List.{append_assoc, length-append, length-set, leng
 use Rattle.std.proofs.lemmas.Bool.{cond-true, cond-false, ltb-false}
 use Rattle.book.specs.Lists.{written}
 use Rattle.book.specs.Members.{rate_of, Addition, first_tranches, subscribed, newcomer, entered_roll}
-use Rattle.book.specs.Refusals.{bad_rate}
+use Rattle.checks.specs.Numbers.{bad_rate}
 use Rattle.book.specs.declared.entries.RollEntry.{RollEntry}
 use Rattle.book.proofs.Passing.{none_of, inside}
 

@@ -1,11 +1,11 @@
--- What each call answers: the first of its checks that holds, or its effect.
+-- What each call answers: the first of its checks that holds, place by place, or its effect.
 --   subscription   a commitment or raise before the launch
 --   launching      the launch
 --   installation   an opening or cabling
 --   billing        a commitment or raise after the launch
 --   settling       a share-out
 use Rattle.std.specs.Prelude.{ℕ, ◌+◌, List, [], ◌∷◌, ◌++◌, length, map}
-use Rattle.refusal.specs.Checks.{Check, first, unless}
+use Rattle.refusal.specs.Checks.{Check, in_turn}
 use Rattle.calendar.specs.Days.{index_of}
 use Rattle.tariff.specs.Meaning.{Meaning}
 use Rattle.book.specs.Lists.{total}
@@ -13,7 +13,7 @@ use Rattle.book.specs.Members.{members_of, Addition, addition, entered_roll, who
 use Rattle.book.specs.Billing.{bill, charged}
 use Rattle.book.specs.Sharing.{object_contribution, payout, credits, left_unshared}
 use Rattle.book.specs.Zone.{Tables, counted_roll, counted_register, counted_members, preparing, launched, levied, Effect, Answer, dated, counting_operators, counting_objects, with_totals, with_roll, with_register}
-use Rattle.book.specs.Refusals.{tables_check, date_checks, index_check, roll_checks, register_checks, price_check, coefficient_check, strip_check}
+use Rattle.book.specs.Refusals.{table_checks, date_checks, launched_date_checks, roll_checks, register_checks, price_checks, sheet_checks, strip_checks}
 use Rattle.book.specs.declared.entries.RollEntry.{RollEntry}
 use Rattle.book.specs.declared.entries.RegisterEntry.{RegisterEntry}
 use Rattle.book.specs.declared.lines.Line.{Line}
@@ -22,8 +22,11 @@ use Rattle.book.specs.declared.zone.Figures.{Figures}
 use Rattle.book.specs.declared.zone.Event.{Event}
 
 -- Before the launch a commitment or raise enters its tranches at index 0, without charge.
-abbrev pub subscription_checks : Figures → Tables → Event → List Check
-subscription_checks f t v = tables_check f t ∷ (date_checks f v.date ++ roll_checks f t v)
+abbrev pub subscription_checks : Figures → Tables → Event → List (List Check)
+subscription_checks f t v =
+    table_checks f t ∷
+    date_checks f v.date ∷
+    roll_checks f t v ∷ []
 
 abbrev pub subscribed_roll : Figures → Tables → Event → List RollEntry
 subscribed_roll f t v = entered_roll (addition 0 v (counted_members f t)) (counted_roll f t)
@@ -39,23 +42,28 @@ subscription_effect f t v = record {
 }
 
 abbrev pub subscription : Figures → Tables → Event → Answer
-subscription f t v = unless (first (subscription_checks f t v)) (subscription_effect f t v)
+subscription f t v = in_turn (subscription_checks f t v) (subscription_effect f t v)
 
 -- A launch sets the launch date and takes the tables as they are.
-abbrev pub launching_checks : Figures → Tables → ℕ → List Check
-launching_checks f t date = tables_check f t ∷ date_checks f date
+abbrev pub launching_checks : Figures → Tables → ℕ → List (List Check)
+launching_checks f t date =
+    table_checks f t ∷
+    date_checks f date ∷ []
 
 abbrev pub launching_effect : Figures → Tables → ℕ → Effect
 launching_effect f t date = record { state = record { figures = dated date f; phase = launched date; tables = t }; lines = [] }
 
 abbrev pub launching : Figures → Tables → ℕ → Answer
-launching f t date = unless (first (launching_checks f t date)) (launching_effect f t date)
+launching f t date = in_turn (launching_checks f t date) (launching_effect f t date)
 
 -- An opening or cabling enters its object last and charges each operator.
-abbrev pub installation_checks : Meaning → Figures → ℕ → Tables → ℕ → RegisterEntry → List Check
+abbrev pub installation_checks : Meaning → Figures → ℕ → Tables → ℕ → RegisterEntry → List (List Check)
 installation_checks m f launch_date t places o =
-    tables_check f t ∷ (date_checks f o.installed ++ (index_check launch_date o.installed ∷ (register_checks f t o ++
-    (price_check m (o ∷ []) ∷ strip_check places (charged m o (counted_members f t)) ∷ []))))
+    table_checks f t ∷
+    launched_date_checks f launch_date o.installed ∷
+    register_checks f t o ∷
+    price_checks m (o ∷ []) ∷
+    strip_checks places (length (charged m o (counted_members f t))) ∷ []
 
 abbrev pub installed_register : Figures → Tables → RegisterEntry → List RegisterEntry
 installed_register f t o = counted_register f t ++ o ∷ []
@@ -72,7 +80,7 @@ installation_effect m f launch_date t o = record {
 
 abbrev pub installation : Meaning → Figures → ℕ → Tables → ℕ → RegisterEntry → Answer
 installation m f launch_date t places o =
-    unless (first (installation_checks m f launch_date t places o)) (installation_effect m f launch_date t o)
+    in_turn (installation_checks m f launch_date t places o) (installation_effect m f launch_date t o)
 
 -- What an event adds to a launched zone: its tranches by the roll as it stands, in the year index of its day.
 abbrev pub added : Figures → ℕ → Tables → Event → Addition
@@ -82,11 +90,13 @@ added f launch_date t v = addition (index_of launch_date v.date) v (counted_memb
 abbrev pub billing_lines : Meaning → Figures → ℕ → Tables → Event → List Line
 billing_lines m f launch_date t v = bill m (added f launch_date t v) (counted_register f t)
 
-abbrev pub billing_checks : Meaning → Figures → ℕ → Tables → ℕ → Event → List Check
+abbrev pub billing_checks : Meaning → Figures → ℕ → Tables → ℕ → Event → List (List Check)
 billing_checks m f launch_date t places v =
-    tables_check f t ∷ (date_checks f v.date ++ (index_check launch_date v.date ∷ (roll_checks f t v ++
-    (price_check m (counted_register f t) ∷ coefficient_check m v.date (counted_register f t) ∷
-    strip_check places (billing_lines m f launch_date t v) ∷ []))))
+    table_checks f t ∷
+    launched_date_checks f launch_date v.date ∷
+    roll_checks f t v ∷
+    sheet_checks m v.date (counted_register f t) ∷
+    strip_checks places (length (billing_lines m f launch_date t v)) ∷ []
 
 abbrev pub billing_effect : Meaning → Figures → ℕ → Tables → Event → Effect
 billing_effect m f launch_date t v = record {
@@ -96,17 +106,19 @@ billing_effect m f launch_date t v = record {
 
 abbrev pub billing : Meaning → Figures → ℕ → Tables → ℕ → Event → Answer
 billing m f launch_date t places v =
-    unless (first (billing_checks m f launch_date t places v)) (billing_effect m f launch_date t v)
+    in_turn (billing_checks m f launch_date t places v) (billing_effect m f launch_date t v)
 
 -- A share-out credits the operators that the event found, then enters the event's tranches. It repeats the checks
 -- of tables and roll and the prices; it has no date.
 abbrev pub settling_lines : Meaning → Figures → ℕ → Tables → Event → List Line
 settling_lines m f launch_date t v = credits m (added f launch_date t v) (counted_register f t) (counted_members f t)
 
-abbrev pub settling_checks : Meaning → Figures → ℕ → Tables → ℕ → Event → List Check
+abbrev pub settling_checks : Meaning → Figures → ℕ → Tables → ℕ → Event → List (List Check)
 settling_checks m f launch_date t places v =
-    tables_check f t ∷ (roll_checks f t v ++
-    (price_check m (counted_register f t) ∷ strip_check places (settling_lines m f launch_date t v) ∷ []))
+    table_checks f t ∷
+    roll_checks f t v ∷
+    price_checks m (counted_register f t) ∷
+    strip_checks places (length (settling_lines m f launch_date t v)) ∷ []
 
 -- A roll entry with an amount on its balance.
 abbrev pub with_credit : ℕ → RollEntry → RollEntry
@@ -143,4 +155,4 @@ settling_effect m f launch_date t v = record {
 
 abbrev pub settling : Meaning → Figures → ℕ → Tables → ℕ → Event → Answer
 settling m f launch_date t places v =
-    unless (first (settling_checks m f launch_date t places v)) (settling_effect m f launch_date t v)
+    in_turn (settling_checks m f launch_date t places v) (settling_effect m f launch_date t v)

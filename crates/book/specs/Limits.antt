@@ -1,7 +1,6 @@
--- The limits of a zone, each named once.
+-- The limits of a zone, each named once. Those of a single operator or object stand with the checks of single numbers.
 --   most_operators, most_objects    what a zone can count
 --   most_index, years               the last year index, and how many there are from 0
---   most_tranches, most_dwellings   of one operator, of one object
 --   most_amount                     of a balance, a total or a count
 use Rattle.std.specs.Prelude.{ℕ}
 
@@ -16,12 +15,6 @@ most_index = 40
 
 abbrev pub years : ℕ
 years = 41
-
-abbrev pub most_tranches : ℕ
-most_tranches = 20
-
-abbrev pub most_dwellings : ℕ
-most_dwellings = 10000
 
 abbrev pub most_amount : ℕ
 most_amount = 4000000000000000000

@@ -1,13 +1,14 @@
 // What an event adds to a zone, by the roll as it stands.
 ghost use Rattle.std.specs.Prelude.{◌≡◌, ◌≤◌};
-ghost use Rattle.book.specs.Limits.{most_index, most_tranches};
+ghost use Rattle.book.specs.Limits.{most_index};
+ghost use Rattle.checks.specs.Numbers.{most_tranches};
 ghost use Rattle.book.specs.Members.{addition, members_of};
 ghost use Rattle.book.specs.Increases.{addition_in};
 
-use crate::checks::rate_on;
 use crate::entries::RollEntry;
 use crate::increase::Increase;
 use crate::zone::Event;
+use crate::zone_checks::rate_on;
 
 // The tranches by which an event's rate exceeds the present one, in a year index.
 pub(crate) fn increase_of(event: &Event, index: u32, counted: &[RollEntry]) -> Increase

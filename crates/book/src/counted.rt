@@ -2,7 +2,7 @@
 ghost use Rattle.std.specs.Prelude.{◌≡◌, ◌≤◌, false, length};
 ghost use Rattle.std.specs.List.{list_any};
 ghost use Rattle.book.specs.Limits.{most_objects, most_operators};
-ghost use Rattle.book.specs.Lists.{one_of};
+ghost use Rattle.checks.specs.Tables.{one_of};
 ghost use Rattle.book.specs.Refusals.{entry_faults, object_faults};
 
 use crate::entries::{RegisterEntry, RollEntry};

@@ -4,7 +4,7 @@ ghost use Rattle.std.specs.List.{list_any};
 ghost use Rattle.book.specs.Lists.{written};
 ghost use Rattle.book.specs.Members.{rate_of, entered_roll};
 ghost use Rattle.book.specs.Increases.{addition_in};
-ghost use Rattle.book.specs.Refusals.{bad_rate};
+ghost use Rattle.checks.specs.Numbers.{bad_rate};
 
 use crate::entries::RollEntry;
 use crate::increase::Increase;

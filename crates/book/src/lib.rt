@@ -2,9 +2,8 @@
 #![tactic(auto)]
 
 mod adding;
-mod asking;
 mod bill;
-mod checks;
+mod call_checks;
 mod counted;
 mod enter;
 pub mod entries;
@@ -14,13 +13,14 @@ pub mod laws;
 pub mod levy;
 pub mod limits;
 pub mod lines;
-mod order;
 pub mod prepared;
 mod price;
 pub mod refused;
 mod settle;
 mod share;
+mod sheet_checks;
 mod tables;
 mod weights;
 pub mod written;
 pub mod zone;
+mod zone_checks;

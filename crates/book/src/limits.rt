@@ -1,7 +1,9 @@
 // The limits of a zone, each named once.
 ghost use Rattle.std.specs.Prelude.{◌≡◌};
-ghost use Rattle.book.specs.Limits.{most_operators, most_objects, most_index, years, most_tranches, most_dwellings, most_amount};
+ghost use Rattle.book.specs.Limits.{most_operators, most_objects, most_index, years, most_amount};
+ghost use Rattle.checks.specs.Numbers.{most_tranches, most_dwellings};
 
+use checks::numbers::{MOST_DWELLINGS, MOST_TRANCHES};
 use tariff::tariff::YEAR_INDICES;
 
 // Operators that a roll can count.
@@ -12,12 +14,6 @@ pub const MOST_OBJECTS: usize = 1024;
 
 // The last year index of a zone's life; indices start at 0.
 pub const MOST_INDEX: u32 = 40;
-
-// Tranches of one operator; a tranche is a twentieth of the zone.
-pub const MOST_TRANCHES: u32 = 20;
-
-// Dwellings of one object.
-pub const MOST_DWELLINGS: u32 = 10_000;
 
 // Micro-euros of a balance or a total, and the number of a count.
 pub const MOST_AMOUNT: u64 = 4_000_000_000_000_000_000;

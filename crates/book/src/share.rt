@@ -2,7 +2,8 @@
 ghost use Rattle.std.specs.Prelude.{◌≡◌, ◌≤◌, false, length, if◌then◌else◌, nat_eq};
 ghost use Rattle.std.specs.List.{list_any};
 ghost use Rattle.book.specs.Limits.{most_operators};
-ghost use Rattle.book.specs.Lists.{one_of, written};
+ghost use Rattle.checks.specs.Tables.{one_of};
+ghost use Rattle.book.specs.Lists.{written};
 ghost use Rattle.book.specs.Members.{members_of};
 ghost use Rattle.book.specs.Sharing.{serves, credits, moved_by, IsShareOutsMost};
 ghost use Rattle.book.specs.Answers.{credited_roll};

@@ -1,16 +1,17 @@
-// Whether the tables that a call is lent are lawful: what a counted entry may be, and that no number stands twice.
-ghost use Rattle.std.specs.Prelude.{◌≡◌, ℕ, Bool, [], ◌∷◌, nat_eq};
-ghost use Rattle.std.specs.List.{list_any};
-ghost use Rattle.book.specs.Lists.{one_of, repeats};
-ghost use Rattle.book.specs.Refusals.{huge, entry_faults, object_faults, figure_faults, table_faults, tables_check};
+// Whether the tables that a call is lent are lawful, and what a counted entry of each may be.
+ghost use Rattle.std.specs.Prelude.{◌≡◌};
 ghost use Rattle.refusal.specs.Checks.{passing};
-ghost use Rattle.book.specs.Passing.{tables};
+ghost use Rattle.checks.specs.Tables.{one_of};
+ghost use Rattle.book.specs.Passing.{tables_in};
+ghost use Rattle.book.specs.Refusals.{huge, entry_faults, object_faults, figure_faults, table_faults, table_checks};
 
 use crate::entries::{RegisterEntry, RollEntry};
-use crate::limits::{MOST_AMOUNT, MOST_DWELLINGS, MOST_TRANCHES};
+use crate::limits::MOST_AMOUNT;
 use crate::weights::rate_of;
 use crate::zone::Figures;
 use calendar::is_date;
+use checks::numbers::{MOST_DWELLINGS, MOST_TRANCHES};
+use checks::tables::{TableEntry, is_bad_table};
 use refusal::Refusal;
 
 // The tables that a call is lent. A zone's figures stay beside them: they are the zone's own.
@@ -20,20 +21,7 @@ pub(crate) struct Tables<'a> {
     pub(crate) register: &'a [RegisterEntry],
 }
 
-// An entry of a table: it has a number and limits of its own.
-pub(crate) trait Entry {
-    ghost numbered: { Self → ℕ };
-
-    ghost faulty: { Self → Bool };
-
-    fn number(&self) -> u32
-        ensures value { result ≡ numbered self.now };
-
-    fn is_faulty(&self) -> bool
-        ensures value { result ≡ faulty self.now };
-}
-
-impl Entry for RollEntry {
+impl TableEntry for RollEntry {
     ghost numbered = { λ e. e.operator };
 
     ghost faulty = { λ e. one_of (entry_faults e) };
@@ -51,7 +39,7 @@ impl Entry for RollEntry {
     }
 }
 
-impl Entry for RegisterEntry {
+impl TableEntry for RegisterEntry {
     ghost numbered = { λ o. o.object };
 
     ghost faulty = { λ o. one_of (object_faults o) };
@@ -68,39 +56,23 @@ impl Entry for RegisterEntry {
     }
 }
 
-// Whether some entry is outside its limits.
-pub(crate) fn any_faulty<E: Entry>(entries: &[E]) -> bool
-    ensures value { result ≡ list_any E.faulty entries.now }
+// Refuses tables that are not lawful, before anything else is asked.
+pub(crate) fn check_tables(figures: &Figures, lent: Tables<'_>) -> Result<(), Refusal>
+    ensures answer { result ≡ passing (table_checks figures.now (tables_in lent.entry)) }
 {
-    entries.iter().any(|entry| entry.is_faulty())
-}
-
-// Whether some entry has a number.
-pub(crate) fn has_number<E: Entry>(entries: &[E], number: u32) -> bool
-    ensures value { result ≡ list_any (λ x. nat_eq (E.numbered x) number) entries.now }
-{
-    entries.iter().any(|entry| entry.number() == number)
-}
-
-// Whether two entries have one number.
-pub(crate) fn repeats_number<E: Entry>(entries: &[E]) -> bool
-    ensures value { result ≡ repeats E.numbered entries.now }
-{
-    let mut rest = entries;
-    while let [first, later @ ..] = rest {
-        if has_number(later, first.number()) {
-            return true;
-        }
-        rest = later;
+    if are_faulty(figures, lent) {
+        return Err(Refusal::BadTables);
     }
-    false
+    Ok(())
 }
 
-// Whether a count, total or balance is too large.
-const fn is_huge(amount: u64) -> bool
-    ensures value { result ≡ huge amount }
+// Whether a table or one of the zone's plain numbers is not lawful.
+fn are_faulty(figures: &Figures, lent: Tables<'_>) -> bool
+    ensures value { result ≡ one_of (table_faults figures.now (tables_in lent.entry)) }
 {
-    amount > MOST_AMOUNT
+    is_bad_table(lent.roll, figures.operators)
+        || is_bad_table(lent.register, figures.objects)
+        || are_huge(figures)
 }
 
 // Whether one of the zone's plain numbers is too large.
@@ -116,28 +88,9 @@ fn are_huge(figures: &Figures) -> bool
         || is_huge(totals.credit_lines)
 }
 
-// Whether the tables have a place for each counted entry, and those entries are lawful.
-fn are_faulty(figures: &Figures, lent: Tables<'_>) -> bool
-    ensures value { result ≡ one_of (table_faults figures.now (tables lent.entry.roll.now lent.entry.register.now)) }
+// Whether a count, total or balance is too large.
+const fn is_huge(amount: u64) -> bool
+    ensures value { result ≡ huge amount }
 {
-    if lent.roll.len() < figures.operators || lent.register.len() < figures.objects {
-        return true;
-    }
-    let operators = &lent.roll[..figures.operators];
-    let objects = &lent.register[..figures.objects];
-    any_faulty(operators)
-        || any_faulty(objects)
-        || repeats_number(operators)
-        || repeats_number(objects)
-        || are_huge(figures)
-}
-
-// Refuses tables that are not lawful, before anything else is asked.
-pub(crate) fn check_tables(figures: &Figures, lent: Tables<'_>) -> Result<(), Refusal>
-    ensures answer { result ≡ passing (tables_check figures.now (tables lent.entry.roll.now lent.entry.register.now) ∷ []) }
-{
-    if are_faulty(figures, lent) {
-        return Err(Refusal::BadTables);
-    }
-    Ok(())
+    amount > MOST_AMOUNT
 }

@@ -1,6 +1,7 @@
 // What tranches come to: a rate, and the weight by which contributions are shared.
 ghost use Rattle.std.specs.Prelude.{◌≡◌, ◌≤◌};
-ghost use Rattle.book.specs.Limits.{most_index, most_tranches, most_weight, most_whole_weight};
+ghost use Rattle.book.specs.Limits.{most_index, most_weight, most_whole_weight};
+ghost use Rattle.checks.specs.Numbers.{most_tranches};
 ghost use Rattle.book.specs.Members.{members_of, rate_of, weight_to, whole_weight};
 
 use crate::counted::Operators;

@@ -3,12 +3,12 @@
 --   checks           the conditions that refuse an order, in their order
 --   link_quotation   the answer for a link
 --   fibre_quotation  the answer for an extra fibre on one
-use Rattle.std.specs.Prelude.{ℕ, ◌-◌, ◌*◌, ◌<◌, min, Bool, true, cond, not, ◌&&◌, List, [], ◌∷◌, is_some, Some, None, Option, Result, nat_lt}
+use Rattle.std.specs.Prelude.{ℕ, ◌-◌, ◌*◌, ◌<◌, min, cond, not, List, [], ◌∷◌, is_some, Some, None, Option, Result, nat_lt}
 use Rattle.std.specs.Option.{option_map, unwrap_or}
-use Rattle.refusal.specs.Checks.{Check, ◌⇒◌, first, unless}
+use Rattle.refusal.specs.Checks.{Check, ◌⇒◌, first, unless, in_turn}
 use Rattle.refusal.specs.declared.Refusal.{Refusal}
-use Rattle.refusal.specs.declared.Refusal.TheVariants.{NoDate, NoCoefficient}
-use Rattle.calendar.specs.Days.{is_date}
+use Rattle.refusal.specs.declared.Refusal.TheVariants.{NoCoefficient}
+use Rattle.checks.specs.Numbers.{date_check}
 use Rattle.tariff.specs.Meaning.{Meaning, CoefficientLimits}
 use Rattle.links.specs.Tables.{rows, most_fibres, row_of, initial, reference, extra, price_at, metres_check, fibres_check}
 use Rattle.links.specs.declared.order.Order.{Order}
@@ -16,15 +16,6 @@ use Rattle.links.specs.declared.quotation.Basis.{Basis}
 use Rattle.links.specs.declared.quotation.Basis.TheVariants.{AbInitio, ExPost}
 use Rattle.links.specs.declared.quotation.Quotation.{Quotation}
 use Rattle.links.specs.declared.quotation.Cell.{Cell}
-
--- A date that may not be known.
-abbrev pub real_if_known : Option ℕ → Bool
-real_if_known None = true
-real_if_known (Some date) = is_date date
-
--- The order date, and the service date where it is known, are real.
-abbrev pub dates_real : Order → Bool
-dates_real o = is_date o.ordered && real_if_known o.service
 
 -- A link is ab initio unless the PM's service date is known and before the order.
 abbrev pub basis_on : Meaning → Option ℕ → ℕ → Option Basis
@@ -37,21 +28,28 @@ basis_on m (Some service) ordered =
 abbrev pub basis_of : Meaning → Order → Option Basis
 basis_of m o = basis_on m o.service o.ordered
 
-abbrev pub date_check : Order → Check
-date_check o = not (dates_real o) ⇒ NoDate
+-- A date that may not be known is checked where it is.
+abbrev pub known_date_checks : Option ℕ → List Check
+known_date_checks None = []
+known_date_checks (Some date) = date_check date ∷ []
 
+-- The order date, and the service date where it is known, are real.
+abbrev pub date_checks : Order → List Check
+date_checks o = date_check o.ordered ∷ known_date_checks o.service
+
+-- An ex post basis has its coefficient.
 abbrev pub coefficient_check : Meaning → Order → Check
 coefficient_check m o = not (is_some (basis_of m o)) ⇒ NoCoefficient
 
--- All checks of an order, in their order.
-abbrev pub checks : Meaning → Order → List Check
+-- All checks of an order, in their order: its dates, its basis, its length and its fibres.
+abbrev pub checks : Meaning → Order → List (List Check)
 checks m o =
-    date_check o ∷ coefficient_check m o ∷ metres_check o.metres ∷ fibres_check o.fibres ∷ []
+    date_checks o ∷
+    (coefficient_check m o ∷ []) ∷
+    (metres_check o.metres ∷ []) ∷
+    (fibres_check o.fibres ∷ []) ∷ []
 
--- Each check alone, with what it lets through.
-abbrev pub dates_checked : Order → Result (Unit {0}) Refusal
-dates_checked o = unless (first (date_check o ∷ [])) tt
-
+-- The check of the basis alone, with what it lets through.
 abbrev pub basis_checked : Meaning → Order → Result Basis Refusal
 basis_checked m o = unless (first (coefficient_check m o ∷ [])) (unwrap_or (basis_of m o) AbInitio)
 
@@ -70,7 +68,7 @@ cell_of m o = record {
 
 -- The cell of an order, or the first check that refuses it.
 abbrev pub placed : Meaning → Order → Result Cell Refusal
-placed m o = unless (first (checks m o)) (cell_of m o)
+placed m o = in_turn (checks m o) (cell_of m o)
 
 -- A basis within the tariff's limits, a row and a column that the tables have.
 pub record CellLimits (p : Cell) : Type 0 where
@@ -107,8 +105,8 @@ fibre_at m p =
 
 -- The answer for a link.
 abbrev pub link_quotation : Meaning → Order → Result Quotation Refusal
-link_quotation m o = unless (first (checks m o)) (link_at m (cell_of m o))
+link_quotation m o = in_turn (checks m o) (link_at m (cell_of m o))
 
 -- The answer for an extra fibre on one.
 abbrev pub fibre_quotation : Meaning → Order → Result Quotation Refusal
-fibre_quotation m o = unless (first (checks m o)) (fibre_at m (cell_of m o))
+fibre_quotation m o = in_turn (checks m o) (fibre_at m (cell_of m o))

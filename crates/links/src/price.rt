@@ -1,11 +1,12 @@
 // The price of an order over any tariff.
 ghost use Rattle.std.specs.Prelude.{◌≡◌, ◌≤◌, IfOk};
-ghost use Rattle.links.specs.Quotations.{dates_checked, basis_checked, placed, CellLimits, BasisLimits, price_on, most_reference, link_at, fibre_at, link_quotation, fibre_quotation};
+ghost use Rattle.refusal.specs.Checks.{passing};
+ghost use Rattle.links.specs.Quotations.{date_checks, basis_checked, placed, CellLimits, BasisLimits, price_on, most_reference, link_at, fibre_at, link_quotation, fibre_quotation};
 
 use crate::order::Order;
 use crate::quotation::{Basis, Cell, Quotation};
 use crate::tables::{EXTRA, INITIAL, REFERENCE, column_of, price_at, row_of};
-use calendar::is_date;
+use checks::numbers::check_date;
 use refusal::Refusal;
 use tariff::quotient::Quotient;
 use tariff::tariff::Tariff;
@@ -41,12 +42,13 @@ fn cell_of<T: Tariff>(sheet: &T, order: &Order) -> Result<Cell, Refusal>
 
 // Whether the order date, and the service date where it is known, are real.
 fn check_dates(order: &Order) -> Result<(), Refusal>
-    ensures answer { result ≡ dates_checked order.now }
+    ensures answer { result ≡ passing (date_checks order.now) }
 {
-    if !is_date(order.ordered) || order.service.is_some_and(|service| !is_date(service)) {
-        return Err(Refusal::NoDate);
+    check_date(order.ordered)?;
+    match order.service {
+        Some(service) => check_date(service),
+        None => Ok(()),
     }
-    Ok(())
 }
 
 // Whether an order is ab initio, or by which coefficient it is ex post.

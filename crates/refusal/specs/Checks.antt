@@ -1,5 +1,5 @@
 -- Conditions in their order, each with the refusal that it gives: the first that holds is the answer.
-use Rattle.std.specs.Prelude.{Bool, cond, List, [], ◌∷◌, ◌++◌, Some, None, Ok, Err, Option, Result}
+use Rattle.std.specs.Prelude.{Bool, cond, List, [], ◌∷◌, Some, None, Ok, Err, Option, Result}
 use Rattle.refusal.specs.declared.Refusal.{Refusal}
 
 pub record Check : Type 0 where
@@ -29,11 +29,7 @@ abbrev pub then_do : {A B : Type 0} → Result A Refusal → (A → Result B Ref
 then_do (Ok a) next = next a
 then_do (Err r) next = Err r
 
--- Lists of checks made in turn, and the same as one list.
-abbrev pub in_turn : List Check → List (List Check) → Result (Unit {0}) Refusal
-in_turn checks [] = passing checks
-in_turn checks (next ∷ more) = then_do (passing checks) (λ _. in_turn next more)
-
-abbrev pub all_of : List Check → List (List Check) → List Check
-all_of checks [] = checks
-all_of checks (next ∷ more) = checks ++ all_of next more
+-- An answer after the checks of each place, made in turn: the first check that holds refuses.
+abbrev pub in_turn : {A : Type 0} → List (List Check) → A → Result A Refusal
+in_turn [] a = Ok a
+in_turn (place ∷ places) a = then_do (passing place) (λ _. in_turn places a)

@@ -1,5 +1,4 @@
 use Rattle.std.proofs.Common.{◌≡◌, T, length, Ok, sym, refl, ap, ◌∙◌, subst, arith}
-use Rattle.refusal.specs.Checks.{first}
 use Rattle.refusal.proofs.First.{carried, still_refused}
 use Rattle.calendar.specs.Days.{is_date}
 use Rattle.book.specs.Members.{Addition, addition}
@@ -9,7 +8,7 @@ use Rattle.book.specs.Promises.{line_count}
 use Rattle.book.specs.Answers.{added, billing_checks, billing_effect}
 use Rattle.book.specs.Increases.{addition_in}
 use Rattle.book.specs.Passing.{tables}
-use Rattle.book.proofs.Billed.{Billable, billable, billed_is, written_is, room_for, turned}
+use Rattle.book.proofs.Billed.{Billable, billable, billed_is, written_is, room_for}
 use Rattle.book.proofs.launched.LaunchedZone.billed.Goals as goal
 use Rattle.book.proofs.launched.LaunchedZone.billed.Goals.{In-Ok, After-increase_of-increase}
 use Rattle.book.proofs.launched.LaunchedZone.billed.Given as given
@@ -19,7 +18,7 @@ able g c =
     let m = g.T.Tariff.meaning c.args.sheet.now in
     let t = tables c.args.roll.now c.args.register.now in
     billable m c.args.self.core.figures c.args.self.launch_date t (length c.args.strip.now) c.args.event _
-    (turned m c.args.self.core.figures c.args.self.launch_date t (length c.args.strip.now) c.args.event _ c.check_billing.ensures.answer ∙ c.in-Ok.is)
+    (sym c.check_billing.ensures.answer ∙ c.in-Ok.is)
 
 -- the code's increase is what the event adds
 adds : (g : given.Over) (c : After-increase_of-increase g) → addition_in c.increase_of-increase.result ≡ added c.args.self.core.figures c.args.self.launch_date (tables c.args.roll.now c.args.register.now) c.args.event
@@ -56,7 +55,7 @@ returns-in-Ok g c =
     let places = length c.args.strip.now in
     let v = c.args.event in
     let is = adds g (goal.at.returns-in-Ok g c).After-increase_of-increase in
-    let accepted = carried (first (billing_checks m f d t places v)) tt _ (λ _. billing_effect m f d t v) (turned m f d t places v _ c.check_billing.ensures.answer ∙ c.in-Ok.is) in
+    let accepted = carried (billing_checks m f d t places v) tt _ (λ _. billing_effect m f d t v) (sym c.check_billing.ensures.answer ∙ c.in-Ok.is) in
     record {
       answer = record {
         given = ap Ok (billed_is m f d t places v _ c.args.strip.now _ _ is c.bill-lines.ensures.number c.bill-lines.ensures.strip) ∙ accepted;
@@ -74,5 +73,5 @@ returns-in-Err g c =
     let t = tables c.args.roll.now c.args.register.now in
     let places = length c.args.strip.now in
     let v = c.args.event in
-    let refused = still_refused (first (billing_checks m f d t places v)) tt (billing_effect m f d t v) _ (turned m f d t places v _ c.check_billing.ensures.answer ∙ c.in-Err.is) in
+    let refused = still_refused (billing_checks m f d t places v) tt (billing_effect m f d t v) _ (sym c.check_billing.ensures.answer ∙ c.in-Err.is) in
     record { answer = record { given = refused; strip = ap (strip_after c.args.strip.now) refused; count = ap line_count refused }; kept = refl }

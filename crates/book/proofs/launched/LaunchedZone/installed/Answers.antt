@@ -1,11 +1,10 @@
-use Rattle.std.proofs.Common.{length, Ok, refl, ap, ◌∙◌, arith}
-use Rattle.refusal.specs.Checks.{first}
+use Rattle.std.proofs.Common.{length, Ok, sym, refl, ap, ◌∙◌, arith}
 use Rattle.refusal.proofs.First.{carried, still_refused}
 use Rattle.book.specs.Zone.{strip_after}
 use Rattle.book.specs.Answers.{installation_checks, installation_effect}
 use Rattle.book.specs.Passing.{tables}
 use Rattle.book.specs.Promises.{line_count}
-use Rattle.book.proofs.Installing.{Installable, installable, installed_is, turned}
+use Rattle.book.proofs.Installing.{Installable, installable, installed_is}
 use Rattle.book.proofs.launched.LaunchedZone.installed.Goals as goal
 use Rattle.book.proofs.launched.LaunchedZone.installed.Goals.{In-Ok}
 use Rattle.book.proofs.launched.LaunchedZone.installed.Given as given
@@ -15,7 +14,7 @@ able g c =
     let m = g.T.Tariff.meaning c.args.sheet.now in
     let t = tables c.args.roll.now c.args.register.now in
     installable m c.args.self.core.figures c.args.self.launch_date t (length c.args.strip.now) c.args.object _
-    (turned m c.args.self.core.figures c.args.self.launch_date t (length c.args.strip.now) c.args.object _ c.check_installation.ensures.answer ∙ c.in-Ok.is)
+    (sym c.check_installation.ensures.answer ∙ c.in-Ok.is)
 
 pub invariant_of-charge : goal.invariant_of-charge
 invariant_of-charge g c = record { sound = (able g (goal.at.invariant_of-charge g c).In-Ok).object_sound }
@@ -38,7 +37,7 @@ returns-in-Ok g c =
     let places = length c.args.strip.now in
     let o = c.args.object in
     let a = able g (goal.at.returns-in-Ok g c).In-Ok in
-    let accepted = carried (first (installation_checks m f d t places o)) tt _ (λ _. installation_effect m f d t o) (turned m f d t places o _ c.check_installation.ensures.answer ∙ c.in-Ok.is) in
+    let accepted = carried (installation_checks m f d t places o) tt _ (λ _. installation_effect m f d t o) (sym c.check_installation.ensures.answer ∙ c.in-Ok.is) in
     record {
       answer = record {
         given = ap Ok (installed_is m f d t places o a.space c.args.strip.now _ _ _ c.charge-lines.ensures.number c.charge-lines.ensures.strip refl) ∙ accepted;
@@ -56,5 +55,5 @@ returns-in-Err g c =
     let t = tables c.args.roll.now c.args.register.now in
     let places = length c.args.strip.now in
     let o = c.args.object in
-    let refused = still_refused (first (installation_checks m f d t places o)) tt (installation_effect m f d t o) _ (turned m f d t places o _ c.check_installation.ensures.answer ∙ c.in-Err.is) in
+    let refused = still_refused (installation_checks m f d t places o) tt (installation_effect m f d t o) _ (sym c.check_installation.ensures.answer ∙ c.in-Err.is) in
     record { answer = record { given = refused; strip = ap (strip_after c.args.strip.now) refused; count = ap line_count refused }; kept = (refl, refl) }

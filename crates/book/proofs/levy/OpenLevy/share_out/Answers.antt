@@ -1,5 +1,4 @@
-use Rattle.std.proofs.Common.{◌≡◌, length, Ok, refl, ap, ◌∙◌}
-use Rattle.refusal.specs.Checks.{first}
+use Rattle.std.proofs.Common.{◌≡◌, length, Ok, sym, refl, ap, ◌∙◌}
 use Rattle.refusal.proofs.First.{carried, still_refused}
 use Rattle.book.specs.Members.{addition}
 use Rattle.book.specs.Zone.{strip_after, counted_roll, counted_register, counted_members}
@@ -12,7 +11,7 @@ use Rattle.book.specs.Calls.{share_out}
 use Rattle.book.proofs.Joining.{room_of}
 use Rattle.book.proofs.Living.{is_answered, whole_life_laws}
 use Rattle.book.proofs.Afterwards.{entered_blind}
-use Rattle.book.proofs.Settled.{Settleable, settleable, settled_is, written_is, room_for, few_entered, turned}
+use Rattle.book.proofs.Settled.{Settleable, settleable, settled_is, written_is, room_for, few_entered}
 use Rattle.book.proofs.levy.OpenLevy.share_out.Goals as goal
 use Rattle.book.proofs.levy.OpenLevy.share_out.Goals.{In_default, After-increase_of-increase}
 use Rattle.book.proofs.levy.OpenLevy.share_out.Given as given
@@ -23,7 +22,7 @@ able g c =
     let t = tables c.args.roll.now c.args.register.now in
     let levy = c.args.self in
     settleable m levy.zone.core.figures levy.zone.launch_date t (length c.args.strip.now) levy.event _ levy.zone.core.few_operators
-    (turned m levy.zone.core.figures levy.zone.launch_date t (length c.args.strip.now) levy.event _ c.check_share_out.ensures.answer ∙ c.in_default.is)
+    (sym c.check_share_out.ensures.answer ∙ c.in_default.is)
 
 -- the code's increase is what the event adds
 adds : (g : given.Over) (c : After-increase_of-increase g) → addition_in c.increase_of-increase.result ≡ added c.args.self.zone.core.figures c.args.self.zone.launch_date (tables c.args.roll.now c.args.register.now) c.args.self.event
@@ -35,7 +34,7 @@ pub settle-operators-requires-clause-place : goal.settle-operators-requires-clau
 settle-operators-requires-clause-place g c =
     let a = able g (goal.at.settle-operators-requires-clause-place g c).In_default in
     let is = adds g (goal.at.settle-operators-requires-clause-place g c).After-increase_of-increase in
-    room_of _ _ (counted_roll c.args.self.zone.core.figures (tables c.args.roll.now c.args.register.now)) _ is a.fits.1
+    room_of _ _ (counted_roll c.args.self.zone.core.figures (tables c.args.roll.now c.args.register.now)) _ is a.fits.space
 
 pub settle-operators-requires-clause-room : goal.settle-operators-requires-clause-room
 settle-operators-requires-clause-room g c =
@@ -52,7 +51,7 @@ invariant_of-zone g c =
     let a = able g (goal.at.invariant_of-zone g c).In_default in
     let is = adds g (goal.at.invariant_of-zone g c).After-increase_of-increase in
     record {
-      few_operators = few_entered m levy.zone.core.figures levy.zone.launch_date t (length c.args.strip.now) levy.event _ _ is a.fits.0 c.settle-operators.ensures.number (entered_blind _ (addition_in c.increase_of-increase.result) (counted_roll levy.zone.core.figures t));
+      few_operators = few_entered m levy.zone.core.figures levy.zone.launch_date t (length c.args.strip.now) levy.event _ _ is a.fits.few c.settle-operators.ensures.number (entered_blind _ (addition_in c.increase_of-increase.result) (counted_roll levy.zone.core.figures t));
       few_objects = levy.zone.core.few_objects;
     }
 
@@ -65,7 +64,7 @@ returns g c =
     let places = length c.args.strip.now in
     let v = c.args.self.event in
     let is = adds g (goal.at.returns g c).After-increase_of-increase in
-    let accepted = carried (first (settling_checks m f d t places v)) tt _ (λ _. settling_effect m f d t v) (turned m f d t places v _ c.check_share_out.ensures.answer ∙ c.in_default.is) in
+    let accepted = carried (settling_checks m f d t places v) tt _ (λ _. settling_effect m f d t v) (sym c.check_share_out.ensures.answer ∙ c.in_default.is) in
     let done = c.settle-operators.ensures in
     let answer = ap Ok (settled_is m f d t places v _ _ _ _ c.args.strip.now _ is (ap (λ x. x.contributed) done.moved) (ap (λ x. x.credited) done.moved) (ap (λ x. x.unshared) done.moved) (ap (λ x. x.credit_lines) done.moved) done.number done.roll done.strip) ∙ accepted in
     let written : IsWritten (settling m f d t places v) c.args.strip.now _ _ _ = record {
@@ -87,7 +86,7 @@ returns-in-Err g c =
     let t = tables c.args.roll.now c.args.register.now in
     let places = length c.args.strip.now in
     let v = c.args.self.event in
-    let refused = still_refused (first (settling_checks m f d t places v)) tt (settling_effect m f d t v) _ (turned m f d t places v _ c.check_share_out.ensures.answer ∙ c.in-Err.is) in
+    let refused = still_refused (settling_checks m f d t places v) tt (settling_effect m f d t v) _ (sym c.check_share_out.ensures.answer ∙ c.in-Err.is) in
     let written : IsWritten (settling m f d t places v) c.args.strip.now _ _ _ = record {
       given = refused;
       strip = ap (strip_after c.args.strip.now) refused;

@@ -1,8 +1,6 @@
-use Rattle.std.proofs.Common.{[], ◌∷◌, sym, refl, ◌∙◌}
-use Rattle.refusal.specs.Checks.{first}
-use Rattle.refusal.proofs.First.{carried, still_refused, in_turn_is}
+use Rattle.std.proofs.Common.{[], sym, refl, ◌∙◌}
+use Rattle.refusal.proofs.First.{carried, still_refused}
 use Rattle.book.specs.Answers.{launching_checks, launching_effect, launching}
-use Rattle.book.specs.Refusals.{tables_check, date_checks}
 use Rattle.book.specs.Passing.{tables}
 use Rattle.book.specs.Promises.{prepared}
 use Rattle.book.specs.Calls.{launch}
@@ -14,7 +12,7 @@ returns-in-Ok c =
     let f = c.args.self.core.figures in
     let t = tables c.args.roll.now c.args.register.now in
     let said = launching f t c.args.date in
-    let answer = carried (first (launching_checks f t c.args.date)) tt _ (λ _. launching_effect f t c.args.date) (sym (in_turn_is (tables_check f t ∷ []) (date_checks f c.args.date ∷ [])) ∙ sym c.check_launch.ensures.answer ∙ c.in-Ok.is) in
+    let answer = carried (launching_checks f t c.args.date) tt _ (λ _. launching_effect f t c.args.date) (sym c.check_launch.ensures.answer ∙ c.in-Ok.is) in
     record {
       call = λ m. is_answered m (prepared c.args.self t) (launch c.args.date) [] [] 0 _ said refl (without_line _ said answer);
       kept = tt;
@@ -26,7 +24,7 @@ returns-in-Err c =
     let f = c.args.self.core.figures in
     let t = tables c.args.roll.now c.args.register.now in
     let said = launching f t c.args.date in
-    let answer = still_refused (first (launching_checks f t c.args.date)) tt (launching_effect f t c.args.date) _ (sym (in_turn_is (tables_check f t ∷ []) (date_checks f c.args.date ∷ [])) ∙ sym c.check_launch.ensures.answer ∙ c.in-Err.is) in
+    let answer = still_refused (launching_checks f t c.args.date) tt (launching_effect f t c.args.date) _ (sym c.check_launch.ensures.answer ∙ c.in-Err.is) in
     record {
       call = λ m. is_answered m (prepared c.args.self t) (launch c.args.date) [] [] 0 _ said refl (without_effect _ said answer);
       kept = refl;

@@ -3,7 +3,7 @@ use Rattle.std.specs.Option.{option_map}
 use Rattle.book.specs.Members.{rate_of}
 use Rattle.book.specs.declared.entries.RollEntry.{RollEntry}
 use Rattle.book.proofs.Rolls.{rate_found}
-use Rattle.book.proofs.checks.rate_on.Goals as goal
+use Rattle.book.proofs.zone_checks.rate_on.Goals as goal
 
 pub returns-in_err-member : goal.returns-in_err-member
 returns-in_err-member c =

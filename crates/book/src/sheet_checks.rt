@@ -1,7 +1,7 @@
 // What a sheet must be able to answer before objects are billed.
-ghost use Rattle.std.specs.Prelude.{◌≡◌, [], ◌∷◌};
+ghost use Rattle.std.specs.Prelude.{◌≡◌};
 ghost use Rattle.std.specs.List.{list_any};
-ghost use Rattle.book.specs.Refusals.{unpriced, unrated, price_check, coefficient_check};
+ghost use Rattle.book.specs.Refusals.{unpriced, unrated, price_checks, sheet_checks};
 ghost use Rattle.refusal.specs.Checks.{passing};
 
 use crate::entries::RegisterEntry;
@@ -10,7 +10,7 @@ use tariff::tariff::Tariff;
 
 // A price for every object.
 pub(crate) fn check_prices<T: Tariff>(sheet: &T, objects: &[RegisterEntry]) -> Result<(), Refusal>
-    ensures answer { result ≡ passing (price_check (T.meaning sheet.now) objects.now ∷ []) }
+    ensures answer { result ≡ passing (price_checks (T.meaning sheet.now) objects.now) }
 {
     if any_unpriced(sheet, objects) {
         return Err(Refusal::NoPrice);
@@ -18,14 +18,15 @@ pub(crate) fn check_prices<T: Tariff>(sheet: &T, objects: &[RegisterEntry]) -> R
     Ok(())
 }
 
-// A coefficient for every object that was installed before a date.
-pub(crate) fn check_coefficients<T: Tariff>(
+// A price for every object, and a coefficient for every one that was installed before a date.
+pub(crate) fn check_sheet<T: Tariff>(
     sheet: &T,
     date: u32,
     objects: &[RegisterEntry],
 ) -> Result<(), Refusal>
-    ensures answer { result ≡ passing (coefficient_check (T.meaning sheet.now) date objects.now ∷ []) }
+    ensures answer { result ≡ passing (sheet_checks (T.meaning sheet.now) date objects.now) }
 {
+    check_prices(sheet, objects)?;
     if any_unrated(sheet, date, objects) {
         return Err(Refusal::NoCoefficient);
     }

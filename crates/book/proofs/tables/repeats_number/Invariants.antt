@@ -1,9 +1,0 @@
-use Rattle.std.proofs.Common.{◌≡◌, length}
-use Rattle.book.specs.Lists.{repeats}
-use Rattle.book.proofs.tables.repeats_number.Given as goal
-
-abbrev pub invariant-loop-rest : goal.invariant-loop-rest
-invariant-loop-rest g l = repeats g.E.Entry.numbered l.rest ≡ repeats g.E.Entry.numbered l.entries
-
-abbrev pub decreases-loop-rest : goal.decreases-loop-rest
-decreases-loop-rest g l = length l.rest
