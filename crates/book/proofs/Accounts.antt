@@ -2,7 +2,7 @@
 use Rattle.std.proofs.Common.{ℕ, ap, arith}
 use Rattle.book.specs.Lists.{total}
 use Rattle.book.specs.Laws.{HeldUnder, EveryLifeAccounted}
-use Rattle.book.specs.declared.zone.Totals.{Totals}
+use Rattle.book.specs.declared.figures.Totals.{Totals}
 use Rattle.book.proofs.Holding.{Within}
 use Rattle.book.proofs.Mirroring.{mirrors}
 

@@ -11,7 +11,7 @@ use Rattle.book.specs.Zone.{Tables, counted_roll, counted_register}
 use Rattle.book.specs.Refusals.{entry_faults, object_faults, table_faults}
 use Rattle.book.specs.declared.entries.RollEntry.{RollEntry}
 use Rattle.book.specs.declared.entries.RegisterEntry.{RegisterEntry}
-use Rattle.book.specs.declared.zone.Figures.{Figures}
+use Rattle.book.specs.declared.figures.Figures.{Figures}
 
 pub record Admitted (f : Figures) (t : Tables) : Type 0 where
   pub roll_long : f.operators ≤ length t.roll

@@ -7,9 +7,10 @@ use Rattle.tariff.specs.Meaning.{Meaning, Lawful, Answered, PriceLimits}
 use Rattle.tariff.specs.declared.kinds.Kind.{Kind}
 use Rattle.book.specs.Lists.{total}
 use Rattle.book.specs.Members.{Member, rate_of, weighed, weight_to, whole_weight, Addition}
-use Rattle.book.specs.Billing.{price_at, unit_contribution, earlier}
+use Rattle.unit_prices.specs.Prices.{price_at, unit_contribution, earlier}
 use Rattle.book.specs.Sharing.{object_contribution}
 use Rattle.book.specs.declared.entries.RegisterEntry.{RegisterEntry}
+use Rattle.unit_prices.proofs.Bounds.{unit_most}
 use Rattle.book.proofs.Totals.{total_most}
 use Rattle.book.proofs.Entering.{Shaped}
 
@@ -51,30 +52,12 @@ weights_each m law n (x ∷ xs) h r = (weight_most m law n x.tranches h.0 r.0, w
 pub weights_most : (m : Meaning) → Lawful m → (n : ℕ) (xs : List Member) → AllByRecursion Shaped xs → AllByRecursion Rated xs → length xs ≤ 16 → whole_weight m n xs ≤ 64000
 weights_most m law n xs h r short = let t = total_most (λ x. weight_to m n x.tranches) 4000 xs (weights_each m law n xs h r) in omega arith
 
-price_found : (p : Option ℕ) → Answered PriceLimits p → unwrap_or p 0 ≤ 500000000
-price_found None h = omega arith
-price_found (Some p) h = h.most
-
-pub price_most : (m : Meaning) → Lawful m → (kind : Kind) (installed : ℕ) → T (is_date installed) → price_at m kind installed ≤ 500000000
-price_most m law kind installed real = price_found (m.price kind installed) (law.prices kind installed real)
-
 -- what the tables' check leaves of an object: its dwellings, and a real day
 abbrev pub Sized : RegisterEntry → Type 0
 Sized o = (o.dwellings ≤ 10000) × T (is_date o.installed)
 
--- a unit contribution is at most price × tranches
-pub unit_most : (m : Meaning) → Lawful m → (kind : Kind) (installed date k : ℕ) → T (is_date installed) → k ≤ 20 → unit_contribution m kind installed date k ≤ 500000000 * k
-unit_most m law kind installed date k real few = go (earlier installed date)
-  where
-    go : (b : Bool) → cond b (m.rounded (price_at m kind installed * k * m.contribution) 100) 0 ≤ 500000000 * k
-    go false = omega arith
-    go true =
-        let p = price_at m kind installed in
-        let a : p ≤ 500000000 = price_most m law kind installed real in
-        let b : p * k ≤ 500000000 * k = mul-le-mul a (omega arith) in
-        let c : p * k * m.contribution ≤ 500000000 * k * 100 = mul-le-mul b law.contributions in
-        let n = law.near (p * k * m.contribution) 100 (omega arith) (omega arith) (omega arith) in
-        omega (arith, n.over)
+pub real_day : (o : RegisterEntry) → Sized o → T (is_date o.installed)
+real_day o sized = let (few, real) = sized in real
 
 pub amount_most : (m : Meaning) → Lawful m → (a : Addition) → a.tranches ≤ 20 → (o : RegisterEntry) → Sized o → object_contribution m a o ≤ 5000000000000 * a.tranches
 amount_most m law a few o sized =

@@ -9,15 +9,16 @@ use Rattle.book.specs.Limits.{most_index}
 use Rattle.book.specs.Lists.{written}
 use Rattle.book.specs.Lines.{line}
 use Rattle.book.specs.Members.{Addition}
-use Rattle.book.specs.Billing.{earlier, unit_price, unit_contribution, billed, bill}
+use Rattle.unit_prices.specs.Prices.{earlier, unit_price, unit_contribution}
+use Rattle.book.specs.Billing.{billed, bill}
 use Rattle.book.specs.Zone.{Tables, counted_register, levied, Effect, dated}
 use Rattle.book.specs.Answers.{added, billing_lines, billing_checks, billing_effect}
 use Rattle.book.specs.Increases.{lines_of, lines_billed}
 use Rattle.book.specs.declared.entries.RegisterEntry.{RegisterEntry}
 use Rattle.book.specs.declared.lines.Line.{Line}
 use Rattle.book.specs.declared.lines.Nature.TheVariants.{Charge, Contribution}
-use Rattle.book.specs.declared.zone.Figures.{Figures}
-use Rattle.book.specs.declared.zone.Event.{Event}
+use Rattle.book.specs.declared.figures.Figures.{Figures}
+use Rattle.book.specs.declared.event.Event.{Event}
 use Rattle.book.proofs.Passing.{accepted_is, real_of}
 use Rattle.book.proofs.Admitting.{Admitted}
 use Rattle.book.proofs.Passed.{billing_passed}

@@ -19,8 +19,8 @@ use Rattle.book.specs.Laws.{EveryCutFair}
 use Rattle.book.specs.declared.entries.RegisterEntry.{RegisterEntry}
 use Rattle.book.specs.declared.lines.Line.{Line}
 use Rattle.book.specs.declared.lines.Nature.TheVariants.{Charge, Contribution}
-use Rattle.book.specs.declared.zone.Figures.{Figures}
-use Rattle.book.specs.declared.zone.Event.{Event}
+use Rattle.book.specs.declared.figures.Figures.{Figures}
+use Rattle.book.specs.declared.event.Event.{Event}
 use Rattle.book.proofs.Totals.{total_map}
 use Rattle.book.proofs.Passing.{accepted_is, real_of}
 use Rattle.book.proofs.Passed.{raise_passed, billing_passed, settling_passed}
@@ -103,10 +103,21 @@ module _ (m : Meaning) (date op R day : ℕ) (reg : List RegisterEntry) where
   raise_to r = raise_event date op r
 
   -- what holds of each state along a cut
+  pub record Along (d : ℕ) (f : Figures) (t : Tables) : Type 0 where
+    pub same_day : d ≡ day
+    pub same_register : counted_register f t ≡ reg
+    pub shaped : AllByRecursion Shaped (counted_members f t)
+
+  pub record AlongLevy (d : ℕ) (v : Event) (f : Figures) (t : Tables) : Type 0 where
+    pub along : Along d f t
+    pub in_time : index_of d date ≤ 40
+    pub to : ℕ
+    pub raises : v ≡ raise_to to
+
   abbrev Good : Phase → Figures → Tables → Type 0
   Good preparing f t = ⊥
-  Good (launched d) f t = (d ≡ day) × (counted_register f t ≡ reg) × AllByRecursion Shaped (counted_members f t)
-  Good (levied d v) f t = (d ≡ day) × (counted_register f t ≡ reg) × AllByRecursion Shaped (counted_members f t) × (index_of d date ≤ 40) × ((r : ℕ) × (v ≡ raise_to r))
+  Good (launched d) f t = Along d f t
+  Good (levied d v) f t = AlongLevy d v f t
 
   -- the rate from which the rest of a cut goes on
   abbrev base : Phase → Figures → Tables → ℕ
@@ -140,7 +151,7 @@ module _ (m : Meaning) (date op R day : ℕ) (reg : List RegisterEntry) where
       let b = r.above in
       record {
         ks = (R - present_rate op (counted_members s.figures s.tables)) ∷ [];
-        lines = ap (λ x. x ∷ []) (raise_lines s.figures d s.tables R effect r g.0 g.1);
+        lines = ap (λ x. x ∷ []) (raise_lines s.figures d s.tables R effect r g.same_day g.same_register);
         adds = omega arith;
       }
   chain (ends {s = s} {effect = effect} acc) (levied d v) e g =
@@ -151,11 +162,11 @@ module _ (m : Meaning) (date op R day : ℕ) (reg : List RegisterEntry) where
       let r = raised_is m date op s.figures d s.tables acc.places to effect a in
       let b = r.above in
       let rest = chain cut (levied d (raise_to to)) (ap (λ (x : Effect). x.state.phase) (sym r.is))
-      (subst (λ (x : Effect). Good (levied d (raise_to to)) x.state.figures x.state.tables) r.is (g.0, g.1, g.2, r.index, (to, refl))) in
+      (subst (λ (x : Effect). Good (levied d (raise_to to)) x.state.figures x.state.tables) r.is (record { along = record { same_day = g.same_day; same_register = g.same_register; shaped = g.shaped }; in_time = r.index; to = to; raises = refl })) in
       let c = rest.adds in
       record {
         ks = (to - present_rate op (counted_members s.figures s.tables)) ∷ rest.ks;
-        lines = cons_same _ _ _ _ (raise_lines s.figures d s.tables to effect r g.0 g.1) rest.lines;
+        lines = cons_same _ _ _ _ (raise_lines s.figures d s.tables to effect r g.same_day g.same_register) rest.lines;
         adds = omega arith;
       }
   chain (raised {s = s} {effect = effect} to acc cut) (levied d v) e g =
@@ -169,12 +180,12 @@ module _ (m : Meaning) (date op R day : ℕ) (reg : List RegisterEntry) where
   chain (passed {s = s} {effect = effect} share_out may acc cut) (launched d) e g =
       none_given _ _ (share_accepted m s.figures s.tables acc.places effect s.phase (launched d) e acc.answer)
   chain (passed {s = s} {effect = effect} share_out may acc cut) (levied d v) e g =
-      let r = g.4.0 in
-      let same : levied d v ≡ levied d (raise_to r) = ap (levied d) g.4.1 in
+      let r = g.to in
+      let same : levied d v ≡ levied d (raise_to r) = ap (levied d) g.raises in
       let a = given_is _ _ (share_accepted m s.figures s.tables acc.places effect s.phase (levied d (raise_to r)) (e ∙ same) acc.answer) in
-      let z = settled_is m date op s.figures d s.tables acc.places r effect a g.3 g.2 in
-      let rest = chain cut (launched d) z.phase (g.0, z.register ∙ g.1, z.shaped) in
-      let c = rest.adds in let q = z.rate in let u : v.rate ≡ r = ap (λ (x : Event). x.rate) g.4.1 in
+      let z = settled_is m date op s.figures d s.tables acc.places r effect a g.in_time g.along.shaped in
+      let rest = chain cut (launched d) z.phase (record { same_day = g.along.same_day; same_register = z.register ∙ g.along.same_register; shaped = z.shaped }) in
+      let c = rest.adds in let q = z.rate in let u : v.rate ≡ r = ap (λ (x : Event). x.rate) g.raises in
       record { ks = rest.ks; lines = rest.lines; adds = omega arith }
   chain (stayed call no' cut) p e g = chain cut p e g
 
@@ -185,7 +196,7 @@ every_cut_fair m law calls s life day phase date op rate effect acc parts cut ob
     let shaped : AllByRecursion Shaped (counted_members s.figures s.tables) = subst (AllByRecursion Shaped) (sym M.members) M.bounds.shaped in
     let a = given_is _ _ (event_accepted m s.figures s.tables acc.places (raise_event date op rate) effect s.phase (launched day) phase acc.answer) in
     let r = raised_is m date op s.figures day s.tables acc.places rate effect a in
-    let p = chain m date op rate day reg cut (launched day) phase (refl, refl, shaped) in
+    let p = chain m date op rate day reg cut (launched day) phase (record { same_day = refl; same_register = refl; shaped = shaped }) in
     let sum : rate - present_rate op (counted_members s.figures s.tables) ≡ total (λ k. k) p.ks = let c = p.adds in omega arith in
     let few : total (λ k. k) p.ks ≤ 20 = let c = p.adds in let d = r.most in omega arith in
     let one : effect.lines ≡ lines_for m date op rate day reg (total (λ k. k) p.ks) =

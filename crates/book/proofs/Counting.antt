@@ -5,8 +5,9 @@ use Rattle.std.specs.List.{AllByRecursion}
 use Rattle.tariff.specs.Meaning.{Meaning}
 use Rattle.book.specs.Lines.{line}
 use Rattle.book.specs.Members.{Member, weight_to, whole_weight, Addition}
-use Rattle.book.specs.Billing.{earlier, unit_contribution, billed, bill}
-use Rattle.book.specs.Sharing.{to_share, serves, unit_share, times, credit, credits}
+use Rattle.unit_prices.specs.Prices.{earlier, unit_contribution}
+use Rattle.book.specs.Billing.{billed, bill}
+use Rattle.book.specs.Sharing.{amount_divided, serves, unit_share, share_count, credit, credits}
 use Rattle.book.specs.Grounds.{LinesCounted}
 use Rattle.book.specs.declared.entries.RegisterEntry.{RegisterEntry}
 use Rattle.book.specs.declared.lines.Line.{Line}
@@ -36,7 +37,7 @@ row_count m a w xs o =
     let l = length_flat_map (credit m a w o) xs in
     let t = total_most (λ x. length (credit m a w o x)) 1 xs
     (all_hold (λ x. length (credit m a w o x) ≤ 1)
-    (λ x. one_or_none (serves (to_share m a o) (weight_to m a.index x.tranches)) (line Credit x.operator o.object (unit_share m (to_share m a o) (weight_to m a.index x.tranches) w) (times o))) xs) in omega arith
+    (λ x. one_or_none (serves (amount_divided m a o) (weight_to m a.index x.tranches)) (line Credit x.operator o.object (unit_share m (amount_divided m a o) (weight_to m a.index x.tranches) w) (share_count o))) xs) in omega arith
 
 credits_count : (m : Meaning) (a : Addition) (os : List RegisterEntry) (xs : List Member) → length (credits m a os xs) ≤ length xs * length os
 credits_count m a os xs =

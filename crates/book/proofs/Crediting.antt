@@ -11,7 +11,7 @@ use Rattle.tariff.specs.Meaning.{Meaning, Lawful}
 use Rattle.book.specs.Lists.{total, written}
 use Rattle.book.specs.Lines.{line}
 use Rattle.book.specs.Members.{member_of, members_of, rate_of, weight_to, whole_weight, Addition}
-use Rattle.book.specs.Sharing.{object_contribution, to_share, serves, share_of, payout, credit, credits, left_unshared}
+use Rattle.book.specs.Sharing.{object_contribution, amount_divided, serves, share_of, payout, credit, credits, left_unshared}
 use Rattle.book.specs.Answers.{with_credit, credited_roll}
 use Rattle.book.specs.declared.entries.RollEntry.{RollEntry}
 use Rattle.book.specs.declared.entries.RegisterEntry.{RegisterEntry}
@@ -116,8 +116,8 @@ module _ {m : Meaning} {a : Addition} {whole : ℕ} {o : RegisterEntry} {roll₁
       ap (λ e. credit m a whole o (member_of e) ++ lines_of m a whole o (drop (i + 1) roll₁)) (sym read)
 
   -- by the amount and the weight that the code has
-  module _ (amount weight : ℕ) (is_a : amount ≡ to_share m a o) (is_w : weight ≡ weight_to m a.index (get_or roll i d).tranches) where
-    due_is : serves amount weight ≡ serves (to_share m a o) (weight_to m a.index (get_or roll i d).tranches)
+  module _ (amount weight : ℕ) (is_a : amount ≡ amount_divided m a o) (is_w : weight ≡ weight_to m a.index (get_or roll i d).tranches) where
+    due_is : serves amount weight ≡ serves (amount_divided m a o) (weight_to m a.index (get_or roll i d).tranches)
     due_is = (λ k. serves (is_a k) (is_w k))
 
     module _ (due : serves amount weight ≡ true) where
@@ -223,13 +223,13 @@ paid_balances m a whole o b most (e ∷ es) le h =
 
 share_small : (m : Meaning) → Lawful m → (a : Addition) (whole : ℕ) → whole ≤ 64000 → (o : RegisterEntry) → object_contribution m a o ≤ 100000000000000 → (e : RollEntry) → weight_to m a.index e.tranches ≤ whole →
     share_of m a whole o e.tranches ≤ 100000000000000
-share_small m law a whole few o small e le = go (serves (to_share m a o) (weight_to m a.index e.tranches)) refl
+share_small m law a whole few o small e le = go (serves (amount_divided m a o) (weight_to m a.index e.tranches)) refl
   where
-    go : (b : Bool) → serves (to_share m a o) (weight_to m a.index e.tranches) ≡ b → cond b (m.rounded (to_share m a o * weight_to m a.index e.tranches) whole * 1) 0 ≤ 100000000000000
+    go : (b : Bool) → serves (amount_divided m a o) (weight_to m a.index e.tranches) ≡ b → cond b (m.rounded (amount_divided m a o * weight_to m a.index e.tranches) whole * 1) 0 ≤ 100000000000000
     go false q = omega arith
     go true q =
-        let p = due_both (to_share m a o) (weight_to m a.index e.tranches) q in
-        let r = share_most m law (to_share m a o) (weight_to m a.index e.tranches) whole small le (omega arith) few in omega arith
+        let p = due_both (amount_divided m a o) (weight_to m a.index e.tranches) q in
+        let r = share_most m law (amount_divided m a o) (weight_to m a.index e.tranches) whole small le (omega arith) few in omega arith
 
 module _ {m : Meaning} {a : Addition} {whole : ℕ} {os : List RegisterEntry} {roll₀ : List RollEntry} {strip₀ : List Line} {k n brought paid : ℕ} {roll : List RollEntry} {strip : List Line}
     (s : Outer m a whole os roll₀ strip₀ k n brought paid roll strip) (d : RegisterEntry) (h : k < length os) where

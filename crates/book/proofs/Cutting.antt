@@ -10,14 +10,16 @@ use Rattle.tariff.specs.declared.kinds.Coefficient.{Coefficient}
 use Rattle.book.specs.Lists.{total}
 use Rattle.book.specs.Lines.{line, shows, unit_of, unit_shown}
 use Rattle.book.specs.Members.{Addition}
-use Rattle.book.specs.Billing.{price_at, coefficient_at, earlier, unit_price, unit_contribution, billed, bill}
+use Rattle.unit_prices.specs.Prices.{price_at, coefficient_at, earlier, unit_price, unit_contribution}
+use Rattle.book.specs.Billing.{billed, bill}
 use Rattle.book.specs.Laws.{Apart}
 use Rattle.book.specs.declared.entries.RegisterEntry.{RegisterEntry}
 use Rattle.book.specs.declared.lines.Line.{Line}
 use Rattle.book.specs.declared.lines.Nature.{Nature}
 use Rattle.book.specs.declared.lines.Nature.TheVariants.{Charge, Contribution}
 use Rattle.book.proofs.Totals.{total_same, total_zero, total_scaled}
-use Rattle.book.proofs.Amounts.{Sized, price_most}
+use Rattle.unit_prices.proofs.Bounds.{price_most, limits_of}
+use Rattle.book.proofs.Amounts.{Sized, real_day}
 
 -- numbers a × k for each k of a list, each rounded over d, and the one of their sum
 module _ (m : Meaning) (law : Lawful m) (a d : ℕ) (pos : 0 < d) (small : d ≤ 240000000) where
@@ -49,10 +51,6 @@ module _ (m : Meaning) (law : Lawful m) (a d : ℕ) (pos : 0 < d) (small : d ≤
       let x : R < S + suc (length ks) = lt_of_mul-lt-mul_right d (omega arith) in
       let y : S < R + suc (length ks) = lt_of_mul-lt-mul_right d (omega arith) in
       record { over = omega arith; under = omega arith }
-
-pub limits_of : (c : Option Coefficient) → Answered CoefficientLimits c → CoefficientLimits (unwrap_or c (record { numerator = 0; denominator = 1 }))
-limits_of None h = record { some = omega arith; small = omega arith; most = omega arith; four = omega arith }
-limits_of (Some c) h = h
 
 -- p k c as (p c) k
 turned : (p k c : ℕ) → p * k * c ≡ p * c * k
@@ -157,7 +155,7 @@ module _ (m : Meaning) (law : Lawful m) (op date index ob : ℕ) (ks : List ℕ)
     where
       go : (hit : Bool) → Apart (length ks) (shown Charge os (total (λ k. k) ks)) (total (shown Charge os) ks) →
           Apart (length ks) (cond hit (unit_price m o.kind o.installed date (total (λ k. k) ks)) (shown Charge os (total (λ k. k) ks))) (total (λ k. cond hit (unit_price m o.kind o.installed date k) (shown Charge os k)) ks)
-      go true r = price_apart m law o.kind o.installed date ks few sized.0.1 today
+      go true r = price_apart m law o.kind o.installed date ks few (real_day o sized.0) today
       go false r = r
 
   pub contributions_apart : (os : List RegisterEntry) → AllByRecursion Sized os → Apart (length ks) (shown Contribution os (total (λ k. k) ks)) (total (shown Contribution os) ks)
@@ -172,6 +170,6 @@ module _ (m : Meaning) (law : Lawful m) (op date index ob : ℕ) (ks : List ℕ)
       go : (b hit : Bool) → Apart (length ks) (shown Contribution os (total (λ k. k) ks)) (total (shown Contribution os) ks) →
           Apart (length ks) (cond b (cond hit (unit_contribution m o.kind o.installed date (total (λ k. k) ks)) (shown Contribution os (total (λ k. k) ks))) (shown Contribution os (total (λ k. k) ks)))
           (total (λ k. cond b (cond hit (unit_contribution m o.kind o.installed date k) (shown Contribution os k)) (shown Contribution os k)) ks)
-      go true true r = contribution_apart m law o.kind o.installed date ks few sized.0.1 today
+      go true true r = contribution_apart m law o.kind o.installed date ks few (real_day o sized.0) today
       go true false r = r
       go false hit r = r

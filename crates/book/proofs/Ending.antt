@@ -6,8 +6,8 @@ use Rattle.book.specs.Zone.{Tables, Phase, preparing, launched, levied, Effect, 
 use Rattle.book.specs.Answers.{added, billing, billing_checks, billing_effect, settling}
 use Rattle.book.specs.Promises.{levied_on}
 use Rattle.book.specs.declared.lines.Line.{Line}
-use Rattle.book.specs.declared.zone.Event.{Event}
-use Rattle.book.specs.declared.zone.Figures.{Figures}
+use Rattle.book.specs.declared.event.Event.{Event}
+use Rattle.book.specs.declared.figures.Figures.{Figures}
 use Rattle.book.specs.declared.levy.OpenLevy.{OpenLevy}
 use Rattle.book.proofs.Passing.{accepted_is}
 use Rattle.book.proofs.Counting.{lines_counted}

@@ -12,10 +12,10 @@ use Rattle.book.specs.Refusals.{table_checks, change_checks, roll_checks, price_
 use Rattle.book.specs.Answers.{added, billing_checks, billing_effect, settling_lines, settling_checks, settling_effect, settling}
 use Rattle.book.specs.Tally.{credited_members}
 use Rattle.book.specs.Grounds.{SharedOutOr, ShareOutFollows, tranches_in, BilledIsEntered}
-use Rattle.book.specs.declared.zone.Figures.{Figures}
-use Rattle.book.specs.declared.zone.Change.{Change}
-use Rattle.book.specs.declared.zone.Change.TheVariants.{Commitment, Raise}
-use Rattle.book.specs.declared.zone.Event.{Event}
+use Rattle.book.specs.declared.figures.Figures.{Figures}
+use Rattle.book.specs.declared.event.Change.{Change}
+use Rattle.book.specs.declared.event.Change.TheVariants.{Commitment, Raise}
+use Rattle.book.specs.declared.event.Event.{Event}
 use Rattle.book.proofs.Passing.{Clear, AllClear, past, accepted_is}
 use Rattle.book.proofs.Passed.{billing_passed}
 use Rattle.book.proofs.Entering.{Shaped, paid_shaped, paid_tranches}

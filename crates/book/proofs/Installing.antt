@@ -12,7 +12,7 @@ use Rattle.book.specs.Refusals.{object_faults}
 use Rattle.book.specs.Answers.{installation_checks, installation_effect, installed_register}
 use Rattle.book.specs.declared.entries.RegisterEntry.{RegisterEntry}
 use Rattle.book.specs.declared.lines.Line.{Line}
-use Rattle.book.specs.declared.zone.Figures.{Figures}
+use Rattle.book.specs.declared.figures.Figures.{Figures}
 use Rattle.book.proofs.Passing.{accepted_is}
 use Rattle.book.proofs.Admitting.{Admitted}
 use Rattle.book.proofs.Passed.{installation_passed}

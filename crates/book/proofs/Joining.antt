@@ -10,10 +10,10 @@ use Rattle.book.specs.Zone.{Tables, counted_roll, counted_members, preparing, Ef
 use Rattle.book.specs.Refusals.{change_checks}
 use Rattle.book.specs.Answers.{subscription_checks, subscription_effect}
 use Rattle.book.specs.declared.entries.RollEntry.{RollEntry}
-use Rattle.book.specs.declared.zone.Figures.{Figures}
-use Rattle.book.specs.declared.zone.Event.{Event}
-use Rattle.book.specs.declared.zone.Change.{Change}
-use Rattle.book.specs.declared.zone.Change.TheVariants.{Commitment, Raise}
+use Rattle.book.specs.declared.figures.Figures.{Figures}
+use Rattle.book.specs.declared.event.Event.{Event}
+use Rattle.book.specs.declared.event.Change.{Change}
+use Rattle.book.specs.declared.event.Change.TheVariants.{Commitment, Raise}
 use Rattle.book.proofs.Passing.{Clear, accepted_is}
 use Rattle.book.proofs.Admitting.{Admitted}
 use Rattle.book.proofs.Passed.{RollPassed, newcomer_passed, raise_passed, subscription_passed}

@@ -21,7 +21,6 @@ pub mod Rolls
 pub mod Living
 pub mod Soundness
 pub mod Weighing
-pub mod Pricing
 pub mod Writing
 pub mod Charging
 pub mod Subscribing

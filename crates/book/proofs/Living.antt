@@ -8,7 +8,7 @@ use Rattle.book.specs.Calls.{Call, raise}
 use Rattle.book.specs.Life.{answer_to, goes_on}
 use Rattle.book.specs.Promises.{LivesOn, IsAnswered, IsWritten, WholeLifeLaws, CutsFairly, answered, line_count}
 use Rattle.book.specs.declared.lines.Line.{Line}
-use Rattle.book.specs.declared.refused.Refused.{Refused}
+use Rattle.book.specs.declared.outcome.Refused.{Refused}
 use Rattle.book.proofs.Accounts.{every_life_accounted}
 use Rattle.book.proofs.Chain.{every_cut_fair}
 

@@ -17,11 +17,11 @@ use Rattle.book.specs.Life.{answer_to_event, answer_to_object, answer_to, made, 
 use Rattle.book.specs.declared.entries.RollEntry.{RollEntry}
 use Rattle.book.specs.declared.entries.RegisterEntry.{RegisterEntry}
 use Rattle.book.specs.declared.lines.Line.{Line}
-use Rattle.book.specs.declared.zone.Totals.{Totals}
-use Rattle.book.specs.declared.zone.Figures.{Figures}
-use Rattle.book.specs.declared.zone.Change.{Change}
-use Rattle.book.specs.declared.zone.Change.TheVariants.{Commitment, Raise}
-use Rattle.book.specs.declared.zone.Event.{Event}
+use Rattle.book.specs.declared.figures.Totals.{Totals}
+use Rattle.book.specs.declared.figures.Figures.{Figures}
+use Rattle.book.specs.declared.event.Change.{Change}
+use Rattle.book.specs.declared.event.Change.TheVariants.{Commitment, Raise}
+use Rattle.book.specs.declared.event.Event.{Event}
 use Rattle.book.proofs.Totals.{all_also, all_of, take_front}
 use Rattle.book.proofs.Passing.{Clear, AllClear, settles, none_of}
 use Rattle.book.proofs.Admitting.{Admitted}

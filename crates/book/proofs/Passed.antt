@@ -11,9 +11,9 @@ use Rattle.book.specs.Zone.{Tables, counted_members}
 use Rattle.book.specs.Refusals.{table_checks, change_checks, roll_checks, register_checks, launched_date_checks, strip_checks}
 use Rattle.book.specs.Answers.{subscription_checks, installation_checks, billing_lines, billing_checks, settling_lines, settling_checks}
 use Rattle.book.specs.declared.entries.RegisterEntry.{RegisterEntry}
-use Rattle.book.specs.declared.zone.Figures.{Figures}
-use Rattle.book.specs.declared.zone.Change.TheVariants.{Commitment, Raise}
-use Rattle.book.specs.declared.zone.Event.{Event}
+use Rattle.book.specs.declared.figures.Figures.{Figures}
+use Rattle.book.specs.declared.event.Change.TheVariants.{Commitment, Raise}
+use Rattle.book.specs.declared.event.Event.{Event}
 use Rattle.book.proofs.Passing.{Clear, AllClear, inside}
 use Rattle.book.proofs.Admitting.{Admitted, admitted}
 

@@ -11,8 +11,9 @@ use Rattle.checks.specs.Tables.{one_of}
 use Rattle.book.specs.Lists.{total}
 use Rattle.book.specs.Lines.{line}
 use Rattle.book.specs.Members.{Member, member_of, rate_of, weight_to, whole_weight, Addition, entered_members, member_subscribed}
-use Rattle.book.specs.Billing.{price_at, coefficient_at, earlier, unit_price, unit_contribution, billed, bill, charged}
-use Rattle.book.specs.Sharing.{to_share, serves, unit_share, credit, credits, object_contribution, payout, share_of}
+use Rattle.unit_prices.specs.Prices.{price_at, coefficient_at, earlier, unit_price, unit_contribution}
+use Rattle.book.specs.Billing.{billed, bill, charged}
+use Rattle.book.specs.Sharing.{amount_divided, serves, unit_share, credit, credits, object_contribution, payout, share_of}
 use Rattle.book.specs.Zone.{Tables, counted_roll, counted_register, counted_members, Phase, preparing, launched, levied, Effect}
 use Rattle.book.specs.Refusals.{entry_faults}
 use Rattle.book.specs.Calls.{Call, commitment, raise, launch, opening, cabling, share_out, commitment_event, raise_event, opened, cabled}
@@ -25,16 +26,16 @@ use Rattle.book.specs.declared.entries.RegisterEntry.{RegisterEntry}
 use Rattle.book.specs.declared.lines.Line.{Line}
 use Rattle.book.specs.declared.lines.Nature.{Nature}
 use Rattle.book.specs.declared.lines.Nature.TheVariants.{Charge, Contribution, Credit}
-use Rattle.book.specs.declared.zone.Totals.{Totals}
-use Rattle.book.specs.declared.zone.Figures.{Figures}
-use Rattle.book.specs.declared.zone.Event.{Event}
+use Rattle.book.specs.declared.figures.Totals.{Totals}
+use Rattle.book.specs.declared.figures.Figures.{Figures}
+use Rattle.book.specs.declared.event.Event.{Event}
 use Rattle.book.proofs.Totals.{all_of, all_also, all_flat_map, parts_most, total_most, total_map, total_swap}
 use Rattle.book.proofs.Passing.{accepted_is, inside, real_of, none_of}
 use Rattle.book.proofs.Passed.{installation_passed, billing_passed, settling_passed}
 use Rattle.book.proofs.Soundness.{sound_of}
 use Rattle.book.proofs.Entering.{Shaped, paid}
-use Rattle.book.proofs.Amounts.{Rated, Sized, price_most, unit_most, amount_most, weights_most}
-use Rattle.book.proofs.Cutting.{limits_of}
+use Rattle.unit_prices.proofs.Bounds.{price_most, unit_most, unit_price_most}
+use Rattle.book.proofs.Amounts.{Rated, Sized, amount_most, weights_most}
 use Rattle.book.proofs.Growing.{rates_of}
 use Rattle.book.proofs.Sharing.{shares_all, credits_total, credits_count, shares_within, none_shared_all}
 use Rattle.book.proofs.Settling.{settled_counted, contributed_most, dues_most}
@@ -45,25 +46,6 @@ Fits l = (l.unit ≤ most_amount) × (l.total ≤ most_amount)
 
 pub line_fits : (n : Nature) (op ob u q : ℕ) → u ≤ 100000000000000 → q ≤ 10000 → Fits (line n op ob u q)
 line_fits n op ob u q h k = let p : u * q ≤ 100000000000000 * 10000 = mul-le-mul h k in (omega arith, omega arith)
-
--- a unit price is at most four times price × tranches
-pub unit_price_most : (m : Meaning) → Lawful m → (kind : Kind) (installed date k : ℕ) → T (is_date installed) → T (is_date date) → k ≤ 20 → unit_price m kind installed date k ≤ 40000000000
-unit_price_most m law kind installed date k real today few = go (earlier installed date)
-  where
-    go : (b : Bool) → let c = coefficient_at m installed date in
-        cond b (m.rounded (price_at m kind installed * k * c.numerator) c.denominator) (price_at m kind installed * k) ≤ 40000000000
-    go false = let p : price_at m kind installed * k ≤ 500000000 * 20 = mul-le-mul (price_most m law kind installed real) few in omega arith
-    go true =
-        let c = coefficient_at m installed date in
-        let l : CoefficientLimits c = limits_of (m.coefficient installed date) (law.coefficients installed date real today) in
-        let p : price_at m kind installed * k ≤ 10000000000 = mul-le-mul (price_most m law kind installed real) few in
-        let q : price_at m kind installed * k * c.numerator ≤ 10000000000 * (4 * c.denominator) = mul-le-mul p l.four in
-        let r : price_at m kind installed * k * c.numerator ≤ 10000000000 * 480000000 = mul-le-mul p l.most in
-        let n = law.near (price_at m kind installed * k * c.numerator) c.denominator (omega arith) l.some l.small in
-        let o = n.over in
-        let x : ℕ = m.rounded (price_at m kind installed * k * c.numerator) c.denominator in
-        let e : 40000000001 * c.denominator ≡ 40000000000 * c.denominator + c.denominator = omega arith in
-        let s : x < 40000000001 = lt_of_mul-lt-mul_right c.denominator (omega arith) in omega arith
 
 -- the lines of a bill
 module _ (m : Meaning) (law : Lawful m) (a : Addition) (few : a.tranches ≤ 20) (today : T (is_date a.date)) where
@@ -100,14 +82,14 @@ module _ (m : Meaning) (law : Lawful m) (a : Addition) (few : a.tranches ≤ 20)
       let s : m.rounded (suc n * suc v) w < suc n + 1 = lt_of_mul-lt-mul_right w (omega arith) in omega arith
 
   credit_fits : (o : RegisterEntry) → Sized o → (x : Member) → weight_to m a.index x.tranches ≤ w → AllByRecursion Fits (credit m a w o x)
-  credit_fits o sized x light = go (serves (to_share m a o) (weight_to m a.index x.tranches)) refl
+  credit_fits o sized x light = go (serves (amount_divided m a o) (weight_to m a.index x.tranches)) refl
     where
-      go : (b : Bool) → serves (to_share m a o) (weight_to m a.index x.tranches) ≡ b →
-          AllByRecursion Fits (cond b (line Credit x.operator o.object (unit_share m (to_share m a o) (weight_to m a.index x.tranches) w) 1 ∷ []) [])
+      go : (b : Bool) → serves (amount_divided m a o) (weight_to m a.index x.tranches) ≡ b →
+          AllByRecursion Fits (cond b (line Credit x.operator o.object (unit_share m (amount_divided m a o) (weight_to m a.index x.tranches) w) 1 ∷ []) [])
       go true e =
           let n = amount_most m law a few o sized in
-          let s = share_most (to_share m a o) (weight_to m a.index x.tranches) (omega arith) light e in
-          (line_fits Credit x.operator o.object (unit_share m (to_share m a o) (weight_to m a.index x.tranches) w) 1 (omega arith) (omega arith), tt)
+          let s = share_most (amount_divided m a o) (weight_to m a.index x.tranches) (omega arith) light e in
+          (line_fits Credit x.operator o.object (unit_share m (amount_divided m a o) (weight_to m a.index x.tranches) w) 1 (omega arith) (omega arith), tt)
       go false e = tt
 
   credit_row_fits : (xs : List Member) → AllByRecursion (λ x. weight_to m a.index x.tranches ≤ w) xs → (o : RegisterEntry) → Sized o → AllByRecursion Fits (flat_map (credit m a w o) xs)

@@ -13,9 +13,9 @@ use Rattle.book.specs.Zone.{Tables, counted_roll, counted_register, counted_memb
 use Rattle.book.specs.Answers.{added, credited_roll, settling_lines, settling_checks, settling_effect}
 use Rattle.book.specs.declared.entries.RollEntry.{RollEntry}
 use Rattle.book.specs.declared.lines.Line.{Line}
-use Rattle.book.specs.declared.zone.Totals.{Totals}
-use Rattle.book.specs.declared.zone.Figures.{Figures}
-use Rattle.book.specs.declared.zone.Event.{Event}
+use Rattle.book.specs.declared.figures.Totals.{Totals}
+use Rattle.book.specs.declared.figures.Figures.{Figures}
+use Rattle.book.specs.declared.event.Event.{Event}
 use Rattle.book.proofs.Passing.{accepted_is}
 use Rattle.book.proofs.Admitting.{Admitted}
 use Rattle.book.proofs.Passed.{settling_passed}

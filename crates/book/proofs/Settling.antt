@@ -5,13 +5,13 @@ use Rattle.std.proofs.lemmas.Bool.{eqb-true, eqb-false}
 use Rattle.tariff.specs.Meaning.{Meaning, Lawful}
 use Rattle.book.specs.Lists.{total}
 use Rattle.book.specs.Members.{Member, members_of, weight_to, whole_weight, Addition, entered_members}
-use Rattle.book.specs.Sharing.{object_contribution, to_share, serves, share_of, due_of, payout, left_unshared}
+use Rattle.book.specs.Sharing.{object_contribution, amount_divided, serves, share_of, due_of, payout, left_unshared}
 use Rattle.book.specs.Zone.{Tables, counted_roll, counted_register, counted_members}
 use Rattle.book.specs.Answers.{added, credited_roll, settled_roll, settling_effect}
 use Rattle.book.specs.Tally.{member_credited, credited_members}
 use Rattle.book.specs.declared.entries.RegisterEntry.{RegisterEntry}
-use Rattle.book.specs.declared.zone.Figures.{Figures}
-use Rattle.book.specs.declared.zone.Event.{Event}
+use Rattle.book.specs.declared.figures.Figures.{Figures}
+use Rattle.book.specs.declared.event.Event.{Event}
 use Rattle.book.proofs.Totals.{total_most, total_map, total_add, total_swap, take_front}
 use Rattle.book.proofs.Entering.{members_entered, members_credited, Shaped, entered_balances}
 use Rattle.book.proofs.Amounts.{Rated, Sized, amount_most}
@@ -74,7 +74,7 @@ module _ (m : Meaning) (law : Lawful m) (a : Addition) (few : a.tranches ≤ 20)
             let b = balances_grow in omega arith
 
     one_due : (o : RegisterEntry) (x : Member) → due_of m a o x.tranches ≤ 1
-    one_due o x = go (serves (to_share m a o) (weight_to m a.index x.tranches))
+    one_due o x = go (serves (amount_divided m a o) (weight_to m a.index x.tranches))
       where
         go : (b : Bool) → cond b 1 0 ≤ 1
         go true = omega arith

@@ -5,7 +5,7 @@ use Rattle.tariff.specs.Meaning.{Meaning, Lawful}
 use Rattle.book.specs.Lists.{total}
 use Rattle.book.specs.Lines.{line}
 use Rattle.book.specs.Members.{Member, Addition, weight_to, whole_weight}
-use Rattle.book.specs.Sharing.{object_contribution, to_share, serves, unit_share, share_of, due_of, credit, credits}
+use Rattle.book.specs.Sharing.{object_contribution, amount_divided, serves, unit_share, share_of, due_of, credit, credits}
 use Rattle.book.specs.declared.entries.RegisterEntry.{RegisterEntry}
 use Rattle.book.specs.declared.lines.Nature.TheVariants.{Credit}
 use Rattle.book.proofs.Totals.{total_same, total_flat_map, length_flat_map}
@@ -21,14 +21,14 @@ module _ (m : Meaning) (a : Addition) where
   dues_all os xs = total (λ o. total (λ x. due_of m a o x.tranches) xs) os
 
   line_total : (o : RegisterEntry) (w : ℕ) (x : Member) → total (λ l. l.total) (credit m a w o x) ≡ share_of m a w o x.tranches
-  line_total o w x = go (serves (to_share m a o) (weight_to m a.index x.tranches)) (unit_share m (to_share m a o) (weight_to m a.index x.tranches) w)
+  line_total o w x = go (serves (amount_divided m a o) (weight_to m a.index x.tranches)) (unit_share m (amount_divided m a o) (weight_to m a.index x.tranches) w)
     where
       go : (b : Bool) (u : ℕ) → total (λ l. l.total) (cond b (line Credit x.operator o.object u 1 ∷ []) []) ≡ cond b (u * 1) 0
       go true u = omega arith
       go false u = refl
 
   line_count : (o : RegisterEntry) (w : ℕ) (x : Member) → length (credit m a w o x) ≡ due_of m a o x.tranches
-  line_count o w x = go (serves (to_share m a o) (weight_to m a.index x.tranches)) (unit_share m (to_share m a o) (weight_to m a.index x.tranches) w)
+  line_count o w x = go (serves (amount_divided m a o) (weight_to m a.index x.tranches)) (unit_share m (amount_divided m a o) (weight_to m a.index x.tranches) w)
     where
       go : (b : Bool) (u : ℕ) → length (cond b (line Credit x.operator o.object u 1 ∷ []) []) ≡ cond b 1 0
       go true u = refl
@@ -66,7 +66,7 @@ module _ (m : Meaning) (a : Addition) where
   none_shared o w [] h = refl
   none_shared o w (x ∷ xs) h =
       let z : weight_to m a.index x.tranches ≡ 0 = omega arith in
-      let q : serves (to_share m a o) (weight_to m a.index x.tranches) ≡ false = ap (serves (to_share m a o)) z ∙ unserved (to_share m a o) in
+      let q : serves (amount_divided m a o) (weight_to m a.index x.tranches) ≡ false = ap (serves (amount_divided m a o)) z ∙ unserved (amount_divided m a o) in
       let s : share_of m a w o x.tranches ≡ 0 = rw q in
       let r = none_shared o w xs (omega arith) in omega arith
 
@@ -74,7 +74,7 @@ module _ (m : Meaning) (a : Addition) where
   none_due o [] h = refl
   none_due o (x ∷ xs) h =
       let z : weight_to m a.index x.tranches ≡ 0 = omega arith in
-      let q : serves (to_share m a o) (weight_to m a.index x.tranches) ≡ false = ap (serves (to_share m a o)) z ∙ unserved (to_share m a o) in
+      let q : serves (amount_divided m a o) (weight_to m a.index x.tranches) ≡ false = ap (serves (amount_divided m a o)) z ∙ unserved (amount_divided m a o) in
       let s : due_of m a o x.tranches ≡ 0 = rw q in
       let r = none_due o xs (omega arith) in omega arith
 

@@ -17,9 +17,9 @@ use Rattle.book.specs.Refusals.{table_checks, date_checks, launched_date_checks,
 use Rattle.book.specs.declared.entries.RollEntry.{RollEntry}
 use Rattle.book.specs.declared.entries.RegisterEntry.{RegisterEntry}
 use Rattle.book.specs.declared.lines.Line.{Line}
-use Rattle.book.specs.declared.zone.Totals.{Totals}
-use Rattle.book.specs.declared.zone.Figures.{Figures}
-use Rattle.book.specs.declared.zone.Event.{Event}
+use Rattle.book.specs.declared.figures.Totals.{Totals}
+use Rattle.book.specs.declared.figures.Figures.{Figures}
+use Rattle.book.specs.declared.event.Event.{Event}
 
 -- Before the launch a commitment or raise enters its tranches at index 0, without charge.
 abbrev pub subscription_checks : Figures → Tables → Event → List (List Check)

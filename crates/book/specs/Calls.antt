@@ -3,8 +3,8 @@ use Rattle.std.specs.Prelude.{ℕ, Bool, true, false}
 use Rattle.tariff.specs.declared.kinds.Kind.{Kind}
 use Rattle.tariff.specs.declared.kinds.Kind.TheVariants.{Covered, Connectable, ThirdParty}
 use Rattle.book.specs.declared.entries.RegisterEntry.{RegisterEntry}
-use Rattle.book.specs.declared.zone.Change.TheVariants.{Commitment, Raise}
-use Rattle.book.specs.declared.zone.Event.{Event}
+use Rattle.book.specs.declared.event.Change.TheVariants.{Commitment, Raise}
+use Rattle.book.specs.declared.event.Event.{Event}
 
 pub data Call : Type 0 where
   commitment : (date operator rate : ℕ) → Call

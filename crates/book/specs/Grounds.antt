@@ -19,8 +19,8 @@ use Rattle.book.specs.Answers.{billing, settling_lines, settling_effect, settlin
 use Rattle.book.specs.Tally.{Made}
 use Rattle.book.specs.Life.{answer_to, Life}
 use Rattle.book.specs.declared.entries.RegisterEntry.{RegisterEntry}
-use Rattle.book.specs.declared.zone.Figures.{Figures}
-use Rattle.book.specs.declared.zone.Event.{Event}
+use Rattle.book.specs.declared.figures.Figures.{Figures}
+use Rattle.book.specs.declared.event.Event.{Event}
 
 -- A share-out from a state, with a strip of some places: refused with one refusal if it is too short, else done.
 pub record SharedOutOr (refusal : Refusal) (m : Meaning) (s : State) (launch_date : ℕ) (v : Event) (places : ℕ) : Type 0 where

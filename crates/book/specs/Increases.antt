@@ -6,7 +6,7 @@ use Rattle.std.specs.Prelude.{ℕ, cond, List}
 use Rattle.book.specs.Lists.{total}
 use Rattle.tariff.specs.Meaning.{Meaning}
 use Rattle.book.specs.Members.{Member, Addition, weight_to}
-use Rattle.book.specs.Billing.{earlier}
+use Rattle.unit_prices.specs.Prices.{earlier}
 use Rattle.book.specs.Sharing.{object_contribution, due}
 use Rattle.book.specs.declared.entries.RegisterEntry.{RegisterEntry}
 use Rattle.book.specs.declared.increase.Increase.{Increase}

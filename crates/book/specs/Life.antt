@@ -8,8 +8,8 @@ use Rattle.book.specs.Calls.{Call, commitment, raise, launch, opening, cabling, 
 use Rattle.book.specs.Answers.{subscription, launching, installation, billing, settling}
 use Rattle.book.specs.Tally.{Made}
 use Rattle.book.specs.declared.entries.RegisterEntry.{RegisterEntry}
-use Rattle.book.specs.declared.zone.Figures.{Figures}
-use Rattle.book.specs.declared.zone.Event.{Event}
+use Rattle.book.specs.declared.figures.Figures.{Figures}
+use Rattle.book.specs.declared.event.Event.{Event}
 
 -- A zone in preparation takes commitments and raises without charge; a launched one takes those that bill.
 abbrev pub answer_to_event : Meaning → Figures → Tables → ℕ → Event → Phase → Option Answer

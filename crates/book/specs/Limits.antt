@@ -19,25 +19,13 @@ years = 41
 abbrev pub most_amount : ℕ
 most_amount = 4000000000000000000
 
--- What follows from them and from the tariff's limits.
---   most_price             micro-euros of a tranche and dwelling
---   most_unit_price        of a dwelling: 20 tranches at 4 times the price
---   most_unit_contribution of a dwelling: the whole price of 20 tranches
+-- What follows from them and from the limits of unit prices.
 --   most_contribution      of an object: that of 10,000 dwellings
 --   most_weight            of an operator: 20 tranches at a weight of 200
 --   most_whole_weight      of 16 operators
 --   most_contributed       by one event: 1,024 objects
 --   most_credited          by one event: 16 operators get at most the whole of it each
 --   most_credit_lines      of one share-out
-abbrev pub most_price : ℕ
-most_price = 500000000
-
-abbrev pub most_unit_price : ℕ
-most_unit_price = 40000000000
-
-abbrev pub most_unit_contribution : ℕ
-most_unit_contribution = 10000000000
-
 abbrev pub most_contribution : ℕ
 most_contribution = 100000000000000
 

@@ -10,7 +10,7 @@ use Rattle.tariff.specs.Meaning.{Meaning}
 use Rattle.book.specs.Limits.{years}
 use Rattle.book.specs.Lists.{total, placed}
 use Rattle.book.specs.declared.entries.RollEntry.{RollEntry}
-use Rattle.book.specs.declared.zone.Event.{Event}
+use Rattle.book.specs.declared.event.Event.{Event}
 
 pub record Member : Type 0 where
   pub operator : ℕ

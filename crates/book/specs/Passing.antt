@@ -5,8 +5,8 @@ use Rattle.std.specs.Prelude.{ℕ, Bool, not, List, [], ◌∷◌, is_some, Opti
 use Rattle.std.specs.Option.{unwrap_or}
 use Rattle.refusal.specs.Checks.{Check, ◌⇒◌}
 use Rattle.refusal.specs.declared.Refusal.TheVariants.{AlreadyOnRoll, NotOnRoll, RateNotRaised, RollFull}
-use Rattle.book.specs.declared.zone.Change.{Change}
-use Rattle.book.specs.declared.zone.Change.TheVariants.{Commitment, Raise}
+use Rattle.book.specs.declared.event.Change.{Change}
+use Rattle.book.specs.declared.event.Change.TheVariants.{Commitment, Raise}
 use Rattle.book.specs.Zone.{Tables}
 use Rattle.book.specs.declared.tables.Tables as lent
 use Rattle.book.specs.declared.entries.RollEntry.{RollEntry}

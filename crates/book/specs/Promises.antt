@@ -21,8 +21,8 @@ use Rattle.book.specs.declared.lines.Nature.TheVariants.{Charge, Contribution}
 use Rattle.book.specs.declared.prepared.PreparedZone.{PreparedZone}
 use Rattle.book.specs.declared.launched.LaunchedZone.{LaunchedZone}
 use Rattle.book.specs.declared.levy.OpenLevy.{OpenLevy}
-use Rattle.book.specs.declared.refused.Refused.{Refused}
-use Rattle.book.specs.declared.written.Written.{Written}
+use Rattle.book.specs.declared.outcome.Refused.{Refused}
+use Rattle.book.specs.declared.outcome.Written.{Written}
 
 abbrev pub prepared : PreparedZone → Tables → State
 prepared zone t = record { figures = zone.core.figures; phase = preparing; tables = t }

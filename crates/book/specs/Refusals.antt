@@ -16,14 +16,14 @@ use Rattle.checks.specs.Tables.{one_of, has_number, is_bad_table}
 use Rattle.tariff.specs.Meaning.{Meaning}
 use Rattle.book.specs.Limits.{most_operators, most_objects, most_index, most_amount}
 use Rattle.book.specs.Members.{rate_of, member, present_rate}
-use Rattle.book.specs.Billing.{earlier}
+use Rattle.unit_prices.specs.Prices.{earlier}
 use Rattle.book.specs.Zone.{Tables, counted_register, counted_members}
 use Rattle.book.specs.declared.entries.RollEntry.{RollEntry}
 use Rattle.book.specs.declared.entries.RegisterEntry.{RegisterEntry}
-use Rattle.book.specs.declared.zone.Figures.{Figures}
-use Rattle.book.specs.declared.zone.Change.{Change}
-use Rattle.book.specs.declared.zone.Change.TheVariants.{Commitment, Raise}
-use Rattle.book.specs.declared.zone.Event.{Event}
+use Rattle.book.specs.declared.figures.Figures.{Figures}
+use Rattle.book.specs.declared.event.Change.{Change}
+use Rattle.book.specs.declared.event.Change.TheVariants.{Commitment, Raise}
+use Rattle.book.specs.declared.event.Event.{Event}
 
 abbrev pub huge : ℕ → Bool
 huge n = nat_lt most_amount n

@@ -1,6 +1,6 @@
 -- How contributions are shared among the operators that the event finds.
 --   object_contribution   what an object contributes
---   to_share, times       the amount of an object that is divided, and how often a share of it counts
+--   amount_divided, share_count   the amount of an object that is divided, and how often a share of it counts
 --   serves                whether an amount and a weight are both above 0
 --   share, due            an operator's share of an object; 1 where it has one, else 0
 --   credits               the credit lines of a share-out
@@ -11,22 +11,23 @@ use Rattle.book.specs.Limits.{most_contributed, most_credited, most_credit_lines
 use Rattle.book.specs.Lists.{total}
 use Rattle.book.specs.Lines.{line}
 use Rattle.book.specs.Members.{Member, Addition, weight_to, whole_weight}
-use Rattle.book.specs.Billing.{unit_contribution}
+use Rattle.unit_prices.specs.Prices.{unit_contribution}
 use Rattle.book.specs.declared.entries.RegisterEntry.{RegisterEntry}
 use Rattle.book.specs.declared.lines.Line.{Line}
 use Rattle.book.specs.declared.lines.Nature.TheVariants.{Credit}
-use Rattle.book.specs.declared.zone.Totals.{Totals}
+use Rattle.book.specs.declared.figures.Totals.{Totals}
 
 -- An object contributes its unit contribution times its dwellings.
 abbrev pub object_contribution : Meaning → Addition → RegisterEntry → ℕ
 object_contribution m a o = unit_contribution m o.kind o.installed a.date a.tranches * o.dwellings
 
--- The whole contribution of an object is divided, and each share of it counts once.
-abbrev pub to_share : Meaning → Addition → RegisterEntry → ℕ
-to_share m a o = object_contribution m a o
+-- The amount of an object that is divided among the operators is its whole contribution.
+abbrev pub amount_divided : Meaning → Addition → RegisterEntry → ℕ
+amount_divided m a o = object_contribution m a o
 
-abbrev pub times : RegisterEntry → ℕ
-times o = 1
+-- A share of it counts once.
+abbrev pub share_count : RegisterEntry → ℕ
+share_count o = 1
 
 abbrev pub serves : ℕ → ℕ → Bool
 serves zero weight = false
@@ -46,10 +47,10 @@ due amount weight = cond (serves amount weight) 1 0
 
 -- The share of an operator of some tranches in an object, and whether it has one.
 abbrev pub share_of : Meaning → Addition → ℕ → RegisterEntry → List ℕ → ℕ
-share_of m a whole o tranches = share m (to_share m a o) (weight_to m a.index tranches) whole (times o)
+share_of m a whole o tranches = share m (amount_divided m a o) (weight_to m a.index tranches) whole (share_count o)
 
 abbrev pub due_of : Meaning → Addition → RegisterEntry → List ℕ → ℕ
-due_of m a o tranches = due (to_share m a o) (weight_to m a.index tranches)
+due_of m a o tranches = due (amount_divided m a o) (weight_to m a.index tranches)
 
 -- What an operator of some tranches gets of all objects.
 abbrev pub payout : Meaning → Addition → ℕ → List RegisterEntry → List ℕ → ℕ
@@ -58,8 +59,8 @@ payout m a whole objects tranches = total (λ o. share_of m a whole o tranches) 
 -- The credit line of an object and an operator, if it has a share of it.
 abbrev pub credit : Meaning → Addition → ℕ → RegisterEntry → Member → List Line
 credit m a whole o x =
-    cond (serves (to_share m a o) (weight_to m a.index x.tranches))
-    (line Credit x.operator o.object (unit_share m (to_share m a o) (weight_to m a.index x.tranches) whole) (times o) ∷ [])
+    cond (serves (amount_divided m a o) (weight_to m a.index x.tranches))
+    (line Credit x.operator o.object (unit_share m (amount_divided m a o) (weight_to m a.index x.tranches) whole) (share_count o) ∷ [])
     []
 
 -- Each object in register order, and for it each operator in roll order.

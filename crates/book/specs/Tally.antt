@@ -10,8 +10,8 @@ use Rattle.book.specs.Members.{Member, Addition, addition, whole_weight, entered
 use Rattle.book.specs.Sharing.{object_contribution, share_of, due_of, payout, left_unshared}
 use Rattle.book.specs.Calls.{Call, commitment, raise, launch, opening, cabling, share_out, commitment_event, raise_event, opened, cabled}
 use Rattle.book.specs.declared.entries.RegisterEntry.{RegisterEntry}
-use Rattle.book.specs.declared.zone.Totals.{Totals}
-use Rattle.book.specs.declared.zone.Event.{Event}
+use Rattle.book.specs.declared.figures.Totals.{Totals}
+use Rattle.book.specs.declared.event.Event.{Event}
 
 pub record Made : Type 0 where
   pub call : Call

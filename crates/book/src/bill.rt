@@ -8,10 +8,10 @@ ghost use Rattle.book.specs.Members.{members_of};
 ghost use Rattle.book.specs.Billing.{bill as billing_of, charged};
 ghost use Rattle.book.specs.Increases.{addition_in, lines_of, lines_billed};
 
-use crate::counted::{Object, Objects, Operators};
 use crate::entries::RegisterEntry;
 use crate::increase::Increase;
 use crate::lines::{Line, Nature};
+use crate::sound_entries::{Object, Objects, Operators};
 use crate::weights::rate_of;
 use tariff::tariff::Tariff;
 

@@ -4,17 +4,17 @@ ghost use Rattle.refusal.specs.Checks.{in_turn};
 ghost use Rattle.book.specs.Answers.{subscription_checks, launching_checks, installation_checks, billing_checks, settling_checks};
 ghost use Rattle.book.specs.Passing.{tables_in};
 
-use crate::adding::increase_of;
 use crate::bill::lines_billed;
-use crate::counted::{Objects, Operators};
 use crate::entries::RegisterEntry;
+use crate::event::Event;
+use crate::increase::Increase;
 use crate::launched::LaunchedZone;
 use crate::levy::OpenLevy;
 use crate::prepared::PreparedZone;
 use crate::share::lines_shared;
 use crate::sheet_checks::{check_prices, check_sheet};
+use crate::sound_entries::{Objects, Operators};
 use crate::tables::{Tables, check_tables};
-use crate::zone::Event;
 use crate::zone_checks::{
     check_date, check_launched_date, check_register, check_roll, check_strip,
 };
@@ -108,7 +108,7 @@ impl OpenLevy {
             items: &lent.register[..self.zone.core.figures.objects],
         };
         check_prices(sheet, objects.items)?;
-        let increase = increase_of(&self.event, self.index(), operators.items);
+        let increase = Increase::of_event(&self.event, self.index(), operators.items);
         let lines = lines_shared(sheet, increase, objects, operators);
         check_strip(places, lines)
     }

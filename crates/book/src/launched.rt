@@ -12,16 +12,16 @@ ghost use Rattle.book.specs.Passing.{tables};
 ghost use Rattle.book.specs.Zone.{launch_day};
 ghost use Rattle.book.specs.Zone as spec;
 
-use crate::adding::increase_of;
 use crate::bill::{bill, charge};
-use crate::counted::{Object, Objects, Operators};
 use crate::entries::{RegisterEntry, RollEntry};
+use crate::event::{Change, Event};
+use crate::figures::{Core, Figures};
+use crate::increase::Increase;
 use crate::levy::OpenLevy;
 use crate::lines::Line;
-use crate::refused::Refused;
+use crate::outcome::{Refused, Written};
+use crate::sound_entries::{Object, Objects, Operators};
 use crate::tables::Tables;
-use crate::written::Written;
-use crate::zone::{Change, Core, Event, Figures};
 use calendar::year_index;
 use tariff::kinds::Kind;
 use tariff::tariff::Tariff;
@@ -231,7 +231,7 @@ impl LaunchedZone {
                 let LaunchedZone { core, launch_date } = self;
                 let figures = core.figures;
                 let index = year_index(launch_date, event.date);
-                let increase = increase_of(&event, index, &roll[..figures.operators]);
+                let increase = Increase::of_event(&event, index, &roll[..figures.operators]);
                 let objects = Objects {
                     items: &register[..figures.objects],
                 };

@@ -7,16 +7,16 @@ ghost use Rattle.book.specs.Passing.{tables};
 ghost use Rattle.book.specs.Zone.{launch_day, open_event};
 ghost use Rattle.book.specs.Zone as spec;
 
-use crate::adding::increase_of;
-use crate::counted::Objects;
 use crate::entries::{RegisterEntry, RollEntry};
+use crate::event::Event;
+use crate::figures::{Core, Figures, Totals};
+use crate::increase::Increase;
 use crate::launched::LaunchedZone;
 use crate::lines::Line;
-use crate::refused::Refused;
-use crate::settle::settle;
+use crate::outcome::{Refused, Written};
+use crate::share::settle;
+use crate::sound_entries::Objects;
 use crate::tables::Tables;
-use crate::written::Written;
-use crate::zone::{Core, Event, Figures, Totals};
 use calendar::year_index;
 use tariff::tariff::Tariff;
 
@@ -86,7 +86,7 @@ impl OpenLevy {
         let OpenLevy { zone, event } = self;
         let LaunchedZone { core, launch_date } = zone;
         let figures = core.figures;
-        let increase = increase_of(&event, index, &roll[..figures.operators]);
+        let increase = Increase::of_event(&event, index, &roll[..figures.operators]);
         let objects = Objects {
             items: &register[..figures.objects],
         };

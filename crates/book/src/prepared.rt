@@ -7,13 +7,14 @@ ghost use Rattle.book.specs.Passing.{tables};
 ghost use Rattle.book.specs.Zone.{no_figures};
 ghost use Rattle.book.specs.Zone as spec;
 
-use crate::adding::increase_of;
 use crate::enter::enter;
 use crate::entries::{RegisterEntry, RollEntry};
+use crate::event::{Change, Event};
+use crate::figures::{Core, Figures, Totals};
+use crate::increase::Increase;
 use crate::launched::LaunchedZone;
-use crate::refused::Refused;
+use crate::outcome::Refused;
 use crate::tables::Tables;
-use crate::zone::{Change, Core, Event, Figures, Totals};
 
 // It is moved from call to call.
 #[derive(Drop)]
@@ -153,7 +154,7 @@ impl PreparedZone {
             Ok(()) => {
                 let PreparedZone { core } = self;
                 let figures = core.figures;
-                let increase = increase_of(&event, 0, &roll[..figures.operators]);
+                let increase = Increase::of_event(&event, 0, &roll[..figures.operators]);
                 let operators = enter(increase, roll, figures.operators);
                 Ok(PreparedZone {
                     core: Core {

@@ -1,19 +1,18 @@
 // What an object costs, and what it contributes.
 ghost use Rattle.std.specs.Prelude.{◌≡◌, ◌≤◌, T as Holds};
 ghost use Rattle.calendar.specs.Days.{is_date};
-ghost use Rattle.book.specs.Limits.{most_price, most_unit_price, most_unit_contribution, most_contribution};
-ghost use Rattle.book.specs.Billing.{price_at, coefficient_at, unit_price, unit_contribution};
+ghost use Rattle.tariff.specs.Bounds.{most_price};
+ghost use Rattle.unit_prices.specs.Limits.{most_unit_price, most_unit_contribution};
+ghost use Rattle.unit_prices.specs.Prices.{price_at, unit_price, unit_contribution};
+ghost use Rattle.book.specs.Limits.{most_contribution};
 ghost use Rattle.book.specs.Increases.{addition_in};
 ghost use Rattle.book.specs.Sharing.{object_contribution};
 
-use crate::counted::Object;
 use crate::increase::Increase;
-use tariff::kinds::Coefficient;
+use crate::sound_entries::Object;
 use tariff::quotient::Quotient;
-use tariff::tariff::Tariff;
-
-// Hundredths in a whole.
-const WHOLE: u32 = 100;
+use tariff::tariff::{Tariff, WHOLE};
+use unit_prices::price::unit_price;
 
 impl<'a> Object<'a> {
     // The price per tranche and dwelling.
@@ -29,7 +28,8 @@ impl<'a> Object<'a> {
         )
     }
 
-    // What a dwelling costs for the tranches of an increase, on its day.
+    // What a dwelling costs for the tranches of an increase, on its day; 0 where a question is refused, which no accepted
+    // call meets.
     pub(crate) fn unit_price<T: Tariff>(self, sheet: &T, increase: Increase) -> u64
         requires real { Holds (is_date increase.date) }
         ensures value { let o = self.entry.item.now in
@@ -37,15 +37,14 @@ impl<'a> Object<'a> {
             result ≡ unit_price m o.kind o.installed increase.date increase.tranches }
         ensures most { result ≤ most_unit_price }
     {
-        let price = self.price(sheet) * u64::from(increase.tranches);
-        if self.item.installed >= increase.date {
-            return price;
-        }
-        let coefficient = coefficient_at(sheet, self.item.installed, increase.date);
-        sheet.rounded(Quotient {
-            numerator: price * u64::from(coefficient.numerator),
-            denominator: coefficient.denominator,
-        })
+        unit_price(
+            sheet,
+            self.item.kind,
+            self.item.installed,
+            increase.date,
+            increase.tranches,
+        )
+        .unwrap_or(0)
     }
 
     // What of it goes to the earlier operators.
@@ -73,15 +72,4 @@ impl<'a> Object<'a> {
     {
         self.unit_contribution(sheet, increase) * u64::from(self.item.dwellings)
     }
-}
-
-// The coefficient of two days.
-fn coefficient_at<T: Tariff>(sheet: &T, installed: u32, date: u32) -> Coefficient
-    ensures value { result ≡ coefficient_at (T.meaning sheet.now) installed date }
-{
-    let none = Coefficient {
-        numerator: 0,
-        denominator: 1,
-    };
-    sheet.coefficient(installed, date).unwrap_or(none)
 }

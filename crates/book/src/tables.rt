@@ -6,9 +6,9 @@ ghost use Rattle.book.specs.Passing.{tables_in};
 ghost use Rattle.book.specs.Refusals.{huge, entry_faults, object_faults, figure_faults, table_faults, table_checks};
 
 use crate::entries::{RegisterEntry, RollEntry};
+use crate::figures::Figures;
 use crate::limits::MOST_AMOUNT;
 use crate::weights::rate_of;
-use crate::zone::Figures;
 use calendar::is_date;
 use checks::numbers::{MOST_DWELLINGS, MOST_TRANCHES};
 use checks::tables::{TableEntry, is_bad_table};

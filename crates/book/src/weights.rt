@@ -4,9 +4,9 @@ ghost use Rattle.book.specs.Limits.{most_index, most_weight, most_whole_weight};
 ghost use Rattle.checks.specs.Numbers.{most_tranches};
 ghost use Rattle.book.specs.Members.{members_of, rate_of, weight_to, whole_weight};
 
-use crate::counted::Operators;
 use crate::entries::RollEntry;
 use crate::increase::Increase;
+use crate::sound_entries::Operators;
 use tariff::tariff::{Tariff, YEAR_INDICES};
 
 // The tranches of all years together, whatever the array holds.

@@ -7,10 +7,11 @@ ghost use Rattle.book.specs.Refusals.{date_checks, launched_date_checks, change_
 ghost use Rattle.book.specs.Passing.{tables_in, changing};
 
 use crate::entries::{RegisterEntry, RollEntry};
+use crate::event::{Change, Event};
+use crate::figures::Figures;
 use crate::limits::{MOST_INDEX, MOST_OBJECTS, MOST_OPERATORS};
 use crate::tables::Tables;
 use crate::weights::rate_of;
-use crate::zone::{Change, Event, Figures};
 use calendar::year_index;
 use checks::numbers;
 use checks::tables::has_number;

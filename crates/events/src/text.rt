@@ -53,7 +53,8 @@ impl<'a> fmt::Display for Numbers<'a> {
 
     fn fmt<W: fmt::Write>(&self, f: &mut fmt::Formatter<W>) -> fmt::Result {
         match self.0 {
-            FileEvent::Commitment { operator, rate, .. } | FileEvent::Raise { operator, rate, .. } => {
+            FileEvent::Commitment { operator, rate, .. }
+            | FileEvent::Raise { operator, rate, .. } => {
                 write!(f, " operator {operator} rate {rate}")
             }
             FileEvent::Opening {

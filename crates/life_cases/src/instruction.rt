@@ -1,6 +1,6 @@
 // What a line of a script says.
 use book::entries::RegisterEntry;
-use book::zone::Event;
+use book::event::Event;
 use series::{Dated, IndexNumber};
 use sheet_parts::given::Prices;
 use tariff::tariff::YEAR_INDICES;

@@ -1,11 +1,12 @@
 // A zone with its tables, and the strips that its calls are lent.
 use crate::instruction::{Call, Places};
 use book::entries::{RegisterEntry, RollEntry};
+use book::event::{Change, Event};
+use book::figures::Figures;
 use book::launched::LaunchedZone;
 use book::lines::Line;
+use book::outcome::Refused;
 use book::prepared::PreparedZone;
-use book::refused::Refused;
-use book::zone::{Change, Event, Figures};
 use refusal::Refusal;
 use std::mem;
 use tariff::kinds::Kind;

@@ -79,9 +79,7 @@ impl Life {
     // Each sheet has a type of its own.
     fn play_on_sheet(&mut self, strips: &mut Strips, call: Call) -> Result<Outcome, Refusal> {
         match self.choice {
-            Choice::Flat => {
-                self.play_on_flat(self.prices, self.terms, strips, call)
-            }
+            Choice::Flat => { self.play_on_flat(self.prices, self.terms, strips, call) }
             Choice::Indexed => {
                 let mut place = None;
                 let wages = self.wages.as_slice();

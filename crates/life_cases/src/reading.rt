@@ -1,7 +1,7 @@
 // How the words of a line are read. A line that cannot be read gives none.
 use crate::instruction::{Call, Choice, Instruction, Places, Setting};
 use book::entries::RegisterEntry;
-use book::zone::{Change, Event};
+use book::event::{Change, Event};
 use series::{Dated, IndexNumber};
 use sheet_parts::given::Prices;
 use tariff::kinds::Kind;

@@ -2,7 +2,7 @@
 #![tactic(auto)]
 
 use event_file::input::file_bytes;
-use stating::network::network_statement;
+use statements::network::network_statement;
 use std::fs::File;
 use std::{env, io};
 

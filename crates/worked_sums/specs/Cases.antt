@@ -12,7 +12,7 @@ use Rattle.book.specs.Runs.{blank_operator, blank_object, blank, Step, ◌on◌,
 use Rattle.book.specs.declared.entries.RollEntry.{RollEntry}
 use Rattle.book.specs.declared.lines.Line.{Line}
 use Rattle.book.specs.declared.lines.Nature.TheVariants.{Charge, Contribution, Credit}
-use Rattle.book.specs.declared.zone.Totals.{Totals}
+use Rattle.book.specs.declared.figures.Totals.{Totals}
 use Rattle.worked_sums.specs.Sheets.{flat_sheet, sheet_up, sheet_of}
 
 -- Balances and rates of the counted operators, in the roll's order.
@@ -43,15 +43,15 @@ abbrev pub statement_end : Meaning → State
 statement_end m = lived m (blank 4 3) statement
 
 -- Seven operators of one tranche each, a PM of 300 dwellings, and a newcomer a year later.
-abbrev pub seven : List Step
-seven =
+abbrev pub seven_steps : List Step
+seven_steps =
     commitment 20170301 1 1 on 0 ∷ commitment 20170301 2 1 on 0 ∷ commitment 20170301 3 1 on 0 ∷
     commitment 20170301 4 1 on 0 ∷ commitment 20170301 5 1 on 0 ∷ commitment 20170301 6 1 on 0 ∷
     commitment 20170301 7 1 on 0 ∷ launch 20170315 on 0 ∷
     opening 20170401 7 300 on 7 ∷ commitment 20180410 8 1 on 2 ∷ share_out on 7 ∷ []
 
 abbrev pub seven_end : Meaning → State
-seven_end m = lived m (blank 9 1) seven
+seven_end m = lived m (blank 9 1) seven_steps
 
 -- An operator from before the launch, one of the year index 2, and a newcomer of index 3.
 abbrev pub by_year : List Step

@@ -7,7 +7,7 @@ use Rattle.book.specs.Calls.{raise, opening, share_out}
 use Rattle.book.specs.Runs.{◌on◌, answer_at, said, lived}
 use Rattle.book.specs.declared.entries.RollEntry.{RollEntry}
 use Rattle.book.specs.declared.entries.RegisterEntry.{RegisterEntry}
-use Rattle.book.specs.declared.zone.Totals.{Totals}
+use Rattle.book.specs.declared.figures.Totals.{Totals}
 use Rattle.worked_sums.specs.Sheets.{sheet_up}
 use Rattle.worked_sums.specs.Cases.{launched_zone, balances, moved}
 use Rattle.worked_sums.specs.RefusalOrder.{one_object, open_levy}

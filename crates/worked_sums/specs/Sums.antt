@@ -5,7 +5,7 @@ use Rattle.series.specs.declared.rows.Dated.{Dated}
 use Rattle.series.specs.declared.limits.IndexNumber.{IndexNumber}
 use Rattle.tariff.specs.Meaning.{Meaning}
 use Rattle.sheet_parts.specs.Rounding.{five_down, five_up}
-use Rattle.sheet_parts.specs.Row.{common_row, coefficient_after}
+use Rattle.sheet_parts.specs.Row.{in_1200ths, common_row, coefficient_after}
 use Rattle.sheets.specs.Flat.{flat}
 use Rattle.sheets.specs.DatedSheets.{dated}
 use Rattle.sheets.specs.Network.{network_records}
@@ -26,8 +26,8 @@ use Rattle.worked_sums.specs.Sheets.{flat_sheet}
 use Rattle.worked_sums.specs.Cases.{balances}
 
 -- The coefficient of the common row after a number of months is so many 1,200ths.
-abbrev pub in_1200ths : ℕ → ℕ → Type 0
-in_1200ths months n = coefficient_after common_row months ≡ Some (record { numerator = n; denominator = 1200 })
+abbrev pub RowGives : ℕ → ℕ → Type 0
+RowGives months n = coefficient_after common_row months ≡ Some (in_1200ths n)
 
 abbrev pub scaled : Meaning → Option ℕ → Option Coefficient → Option ℕ
 scaled m None by = None
@@ -97,11 +97,11 @@ weights_after steps index =
     map (λ x. weight_to falling_sheet index x.tranches) (counted_members end.figures end.tables)
 
 pub record WorkedSums : Type 0 where
-  pub months_0 : in_1200ths 0 1200
-  pub months_3 : in_1200ths 3 1230
-  pub months_18 : in_1200ths 18 1368
-  pub months_65 : in_1200ths 65 1531
-  pub months_239 : in_1200ths 239 300
+  pub months_0 : RowGives 0 1200
+  pub months_3 : RowGives 3 1230
+  pub months_18 : RowGives 18 1368
+  pub months_65 : RowGives 65 1531
+  pub months_239 : RowGives 239 300
   -- 19.149661 euros after three months are 19.628402525
   pub down : five_down (19149661 * 1230) 1200 ≡ 19628402
   pub up : five_up (19149661 * 1230) 1200 ≡ 19628403

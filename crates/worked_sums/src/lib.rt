@@ -27,10 +27,8 @@ pub struct Worked {
 /// worked by hand.
 pub fn worked_examples() -> Worked
     ensures sums { WorkedSums }
-    ensures coefficients {
-        let worked = 1200 ∷ 1230 ∷ 1368 ∷ 1531 ∷ 300 ∷ [] in
-        result.coefficients ≡ map (λ n. Some (in_1200ths n)) worked
-    }
+    ensures coefficients { let worked = 1200 ∷ 1230 ∷ 1368 ∷ 1531 ∷ 300 ∷ [] in
+        result.coefficients ≡ map (λ n. Some (in_1200ths n)) worked }
     ensures indices { result.indices ≡ 1 ∷ 2 ∷ [] }
 {
     Worked {

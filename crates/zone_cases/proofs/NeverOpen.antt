@@ -13,7 +13,7 @@ use Rattle.book.specs.Passing.{tables}
 use Rattle.book.specs.declared.entries.RegisterEntry.{RegisterEntry}
 use Rattle.book.specs.declared.entries.RollEntry.{RollEntry}
 use Rattle.book.specs.declared.lines.Line.{Line}
-use Rattle.book.specs.declared.zone.Event.{Event}
+use Rattle.book.specs.declared.event.Event.{Event}
 use Rattle.book.specs.declared.launched.LaunchedZone.{LaunchedZone}
 use Rattle.book.specs.declared.levy.OpenLevy.{OpenLevy}
 use Rattle.book.proofs.Passing.{accepted_is}

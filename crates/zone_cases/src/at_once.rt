@@ -5,13 +5,12 @@ ghost use Rattle.book.specs.Passing.{tables};
 ghost use Rattle.book.specs.Promises.{levied_on, written_answer};
 
 use book::entries::{RegisterEntry, RollEntry};
+use book::event::{Change, Event};
 use book::launched::LaunchedZone;
 use book::laws::share_outs_follow;
 use book::levy::OpenLevy;
 use book::lines::Line;
-use book::refused::Refused;
-use book::written::Written;
-use book::zone::{Change, Event};
+use book::outcome::{Refused, Written};
 use refusal::Refusal;
 use tariff::tariff::Tariff;
 

@@ -7,11 +7,11 @@ pub mod at_once;
 mod tests {
     use crate::at_once::{MOST_LINES, shared};
     use book::entries::{RegisterEntry, RollEntry};
+    use book::event::{Change, Event};
     use book::launched::LaunchedZone;
     use book::lines::Line;
+    use book::outcome::Refused;
     use book::prepared::PreparedZone;
-    use book::refused::Refused;
-    use book::zone::{Change, Event};
     use refusal::Refusal;
     use sheet_parts::given::{Prices, Terms};
     use sheets::flat::FlatSheet;

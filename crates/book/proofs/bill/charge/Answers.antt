@@ -1,7 +1,7 @@
 use Rattle.std.proofs.Common.{◌*◌, [], arith}
 use Rattle.book.specs.declared.entries.RollEntry.{RollEntry}
 use Rattle.book.proofs.Soundness.{sound_at, sized_of}
-use Rattle.book.proofs.Pricing.{price_fits}
+use Rattle.unit_prices.proofs.Bounds.{price_fits}
 use Rattle.book.proofs.Charging.{line_fits, charged_done}
 use Rattle.book.proofs.bill.charge.Goals as goal
 

@@ -1,6 +1,6 @@
 use Rattle.std.proofs.Common.{arith, length-append, length-drop}
 use Rattle.book.specs.declared.lines.Line.{Line}
-use Rattle.book.specs.declared.zone.Event.{Event}
+use Rattle.book.specs.declared.event.Event.{Event}
 use Rattle.zone_cases.proofs.NeverOpen.{never_refused_again}
 use Rattle.zone_cases.proofs.at_once.shared.Goals as goal
 

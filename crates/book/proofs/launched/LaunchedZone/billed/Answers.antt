@@ -10,7 +10,7 @@ use Rattle.book.specs.Increases.{addition_in}
 use Rattle.book.specs.Passing.{tables}
 use Rattle.book.proofs.Billed.{Billable, billable, billed_is, written_is, room_for}
 use Rattle.book.proofs.launched.LaunchedZone.billed.Goals as goal
-use Rattle.book.proofs.launched.LaunchedZone.billed.Goals.{In-Ok, After-increase_of-increase}
+use Rattle.book.proofs.launched.LaunchedZone.billed.Goals.{In-Ok, After-of_event-increase}
 use Rattle.book.proofs.launched.LaunchedZone.billed.Given as given
 
 able : (g : given.Over) (c : In-Ok g) → Billable (g.T.Tariff.meaning c.args.sheet.now) c.args.self.core.figures c.args.self.launch_date (tables c.args.roll.now c.args.register.now) (length c.args.strip.now) c.args.event
@@ -21,29 +21,29 @@ able g c =
     (sym c.check_billing.ensures.answer ∙ c.in-Ok.is)
 
 -- the code's increase is what the event adds
-adds : (g : given.Over) (c : After-increase_of-increase g) → addition_in c.increase_of-increase.result ≡ added c.args.self.core.figures c.args.self.launch_date (tables c.args.roll.now c.args.register.now) c.args.event
+adds : (g : given.Over) (c : After-of_event-increase g) → addition_in c.of_event-increase.result ≡ added c.args.self.core.figures c.args.self.launch_date (tables c.args.roll.now c.args.register.now) c.args.event
 adds g c =
     let members = counted_members c.args.self.core.figures (tables c.args.roll.now c.args.register.now) in
-    c.increase_of-increase.ensures.value ∙ ap (λ n. addition n c.args.event members) c.year_index-index.ensures.value
+    c.of_event-increase.ensures.value ∙ ap (λ n. addition n c.args.event members) c.year_index-index.ensures.value
 
-pub increase_of-increase-requires-clause-index : goal.increase_of-increase-requires-clause-index
-increase_of-increase-requires-clause-index g c =
-    let a = able g (goal.at.increase_of-increase-requires-clause-index g c).In-Ok in
+pub of_event-increase-requires-clause-index : goal.of_event-increase-requires-clause-index
+of_event-increase-requires-clause-index g c =
+    let a = able g (goal.at.of_event-increase-requires-clause-index g c).In-Ok in
     omega (arith, a.in_time, c.year_index-index.ensures.value)
 
-pub increase_of-increase-requires-clause-rate : goal.increase_of-increase-requires-clause-rate
-increase_of-increase-requires-clause-rate g c = (able g (goal.at.increase_of-increase-requires-clause-rate g c).In-Ok).rate
+pub of_event-increase-requires-clause-rate : goal.of_event-increase-requires-clause-rate
+of_event-increase-requires-clause-rate g c = (able g (goal.at.of_event-increase-requires-clause-rate g c).In-Ok).rate
 
 pub bill-lines-requires-clause-real : goal.bill-lines-requires-clause-real
 bill-lines-requires-clause-real g c =
-    let is = adds g (goal.at.bill-lines-requires-clause-real g c).After-increase_of-increase in
+    let is = adds g (goal.at.bill-lines-requires-clause-real g c).After-of_event-increase in
     subst (λ (a : Addition). T (is_date a.date)) (sym is) (able g (goal.at.bill-lines-requires-clause-real g c).In-Ok).real
 
 pub bill-lines-requires-clause-room : goal.bill-lines-requires-clause-room
 bill-lines-requires-clause-room g c =
     let m = g.T.Tariff.meaning c.args.sheet.now in
     let a = able g (goal.at.bill-lines-requires-clause-room g c).In-Ok in
-    let is = adds g (goal.at.bill-lines-requires-clause-room g c).After-increase_of-increase in
+    let is = adds g (goal.at.bill-lines-requires-clause-room g c).After-of_event-increase in
     room_for m c.args.self.core.figures c.args.self.launch_date (tables c.args.roll.now c.args.register.now) (length c.args.strip.now) c.args.event _ is a.room
 
 pub returns-in-Ok : goal.returns-in-Ok
@@ -54,7 +54,7 @@ returns-in-Ok g c =
     let t = tables c.args.roll.now c.args.register.now in
     let places = length c.args.strip.now in
     let v = c.args.event in
-    let is = adds g (goal.at.returns-in-Ok g c).After-increase_of-increase in
+    let is = adds g (goal.at.returns-in-Ok g c).After-of_event-increase in
     let accepted = carried (billing_checks m f d t places v) tt _ (λ _. billing_effect m f d t v) (sym c.check_billing.ensures.answer ∙ c.in-Ok.is) in
     record {
       answer = record {

@@ -21,12 +21,12 @@ returns g c =
     let tables = sym c.check_tables.ensures.answer ∙ c.in_ok-check_tables.was in
     let roll = sym c.check_roll.ensures.answer ∙ c.in_ok-check_roll.was in
     let prices = sym c.check_prices.ensures.answer ∙ c.in_ok-check_prices.was in
-    let adds = c.increase_of-increase.ensures.value ∙ ap (λ n. addition n c.args.self.now.event members) c.index.ensures.value in
+    let adds = c.of_event-increase.ensures.value ∙ ap (λ n. addition n c.args.self.now.event members) c.index.ensures.value in
     let due = length (settling_lines m f c.args.self.now.zone.launch_date t c.args.self.now.event) in
     let from_strip = strip_checks c.args.places due ∷ [] in
     let from_sheet = price_checks m objects ∷ from_strip in
     let from_roll = roll_checks f t c.args.self.now.event ∷ from_sheet in
-    let lines = c.lines_shared-lines.ensures.number ∙ sym (counted_credits m (addition_in c.increase_of-increase.result) objects members) ∙ ap (λ a. length (credits m a objects members)) adds in
+    let lines = c.lines_shared-lines.ensures.number ∙ sym (counted_credits m (addition_in c.of_event-increase.result) objects members) ∙ ap (λ a. length (credits m a objects members)) adds in
     record {
       answer = c.check_strip.ensures.answer
           ∙ last_place (strip_checks c.args.places _)

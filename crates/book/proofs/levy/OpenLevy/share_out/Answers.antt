@@ -13,7 +13,7 @@ use Rattle.book.proofs.Living.{is_answered, whole_life_laws}
 use Rattle.book.proofs.Afterwards.{entered_blind}
 use Rattle.book.proofs.Settled.{Settleable, settleable, settled_is, written_is, room_for, few_entered}
 use Rattle.book.proofs.levy.OpenLevy.share_out.Goals as goal
-use Rattle.book.proofs.levy.OpenLevy.share_out.Goals.{In_default, After-increase_of-increase}
+use Rattle.book.proofs.levy.OpenLevy.share_out.Goals.{In_default, After-of_event-increase}
 use Rattle.book.proofs.levy.OpenLevy.share_out.Given as given
 
 able : (g : given.Over) (c : In_default g) → Settleable (g.T.Tariff.meaning c.args.sheet.now) c.args.self.zone.core.figures c.args.self.zone.launch_date (tables c.args.roll.now c.args.register.now) (length c.args.strip.now) c.args.self.event
@@ -25,22 +25,22 @@ able g c =
     (sym c.check_share_out.ensures.answer ∙ c.in_default.is)
 
 -- the code's increase is what the event adds
-adds : (g : given.Over) (c : After-increase_of-increase g) → addition_in c.increase_of-increase.result ≡ added c.args.self.zone.core.figures c.args.self.zone.launch_date (tables c.args.roll.now c.args.register.now) c.args.self.event
+adds : (g : given.Over) (c : After-of_event-increase g) → addition_in c.of_event-increase.result ≡ added c.args.self.zone.core.figures c.args.self.zone.launch_date (tables c.args.roll.now c.args.register.now) c.args.self.event
 adds g c =
     let members = counted_members c.args.self.zone.core.figures (tables c.args.roll.now c.args.register.now) in
-    c.increase_of-increase.ensures.value ∙ ap (λ n. addition n c.args.self.event members) c.index-index.ensures.value
+    c.of_event-increase.ensures.value ∙ ap (λ n. addition n c.args.self.event members) c.index-index.ensures.value
 
 pub settle-operators-requires-clause-place : goal.settle-operators-requires-clause-place
 settle-operators-requires-clause-place g c =
     let a = able g (goal.at.settle-operators-requires-clause-place g c).In_default in
-    let is = adds g (goal.at.settle-operators-requires-clause-place g c).After-increase_of-increase in
+    let is = adds g (goal.at.settle-operators-requires-clause-place g c).After-of_event-increase in
     room_of _ _ (counted_roll c.args.self.zone.core.figures (tables c.args.roll.now c.args.register.now)) _ is a.fits.space
 
 pub settle-operators-requires-clause-room : goal.settle-operators-requires-clause-room
 settle-operators-requires-clause-room g c =
     let levy = c.args.self in
     let a = able g (goal.at.settle-operators-requires-clause-room g c).In_default in
-    let is = adds g (goal.at.settle-operators-requires-clause-room g c).After-increase_of-increase in
+    let is = adds g (goal.at.settle-operators-requires-clause-room g c).After-of_event-increase in
     room_for (g.T.Tariff.meaning c.args.sheet.now) levy.zone.core.figures levy.zone.launch_date (tables c.args.roll.now c.args.register.now) (length c.args.strip.now) levy.event _ is a.room
 
 pub invariant_of-zone : goal.invariant_of-zone
@@ -49,9 +49,9 @@ invariant_of-zone g c =
     let levy = c.args.self in
     let t = tables c.args.roll.now c.args.register.now in
     let a = able g (goal.at.invariant_of-zone g c).In_default in
-    let is = adds g (goal.at.invariant_of-zone g c).After-increase_of-increase in
+    let is = adds g (goal.at.invariant_of-zone g c).After-of_event-increase in
     record {
-      few_operators = few_entered m levy.zone.core.figures levy.zone.launch_date t (length c.args.strip.now) levy.event _ _ is a.fits.few c.settle-operators.ensures.number (entered_blind _ (addition_in c.increase_of-increase.result) (counted_roll levy.zone.core.figures t));
+      few_operators = few_entered m levy.zone.core.figures levy.zone.launch_date t (length c.args.strip.now) levy.event _ _ is a.fits.few c.settle-operators.ensures.number (entered_blind _ (addition_in c.of_event-increase.result) (counted_roll levy.zone.core.figures t));
       few_objects = levy.zone.core.few_objects;
     }
 
@@ -63,7 +63,7 @@ returns g c =
     let t = tables c.args.roll.now c.args.register.now in
     let places = length c.args.strip.now in
     let v = c.args.self.event in
-    let is = adds g (goal.at.returns g c).After-increase_of-increase in
+    let is = adds g (goal.at.returns g c).After-of_event-increase in
     let accepted = carried (settling_checks m f d t places v) tt _ (λ _. settling_effect m f d t v) (sym c.check_share_out.ensures.answer ∙ c.in_default.is) in
     let done = c.settle-operators.ensures in
     let answer = ap Ok (settled_is m f d t places v _ _ _ _ c.args.strip.now _ is (ap (λ x. x.contributed) done.moved) (ap (λ x. x.credited) done.moved) (ap (λ x. x.unshared) done.moved) (ap (λ x. x.credit_lines) done.moved) done.number done.roll done.strip) ∙ accepted in

@@ -7,8 +7,8 @@ use Rattle.book.proofs.Admitting.{rates_sound}
 use Rattle.book.proofs.Joining.{subscribable, room_of, subscription_done}
 use Rattle.book.proofs.prepared.PreparedZone.subscribed.Goals as goal
 
-pub increase_of-increase-requires-clause-rate : goal.increase_of-increase-requires-clause-rate
-increase_of-increase-requires-clause-rate c =
+pub of_event-increase-requires-clause-rate : goal.of_event-increase-requires-clause-rate
+of_event-increase-requires-clause-rate c =
     let f = c.args.self.core.figures in
     let t = tables c.args.roll.now c.args.register.now in
     let v = c.args.event in
@@ -20,7 +20,7 @@ enter-operators-requires c =
     let t = tables c.args.roll.now c.args.register.now in
     let v = c.args.event in
     let s = subscribable f t v _ c.args.self.core.few_operators (sym c.check_subscription.ensures.answer ∙ c.in-Ok.is) in
-    let is = c.increase_of-increase.ensures.value in
+    let is = c.of_event-increase.ensures.value in
     record {
       counted = s.tables_in.roll_long;
       rates = rates_sound (counted_roll f t) s.tables_in.entries_sound;
@@ -33,7 +33,7 @@ invariant_of-result c =
     let t = tables c.args.roll.now c.args.register.now in
     let v = c.args.event in
     let s = subscribable f t v _ c.args.self.core.few_operators (sym c.check_subscription.ensures.answer ∙ c.in-Ok.is) in
-    let is = c.increase_of-increase.ensures.value in
+    let is = c.of_event-increase.ensures.value in
     record {
       few_operators = rw c.enter-operators.ensures.number (room_of _ _ (counted_roll f t) 16 is s.fits.few);
       few_objects = c.args.self.core.few_objects;
@@ -44,7 +44,7 @@ returns-in-Ok c =
     let f = c.args.self.core.figures in
     let t = tables c.args.roll.now c.args.register.now in
     let v = c.args.event in
-    let is = c.increase_of-increase.ensures.value in
+    let is = c.of_event-increase.ensures.value in
     let accepted = carried (subscription_checks f t v) tt _ (λ _. subscription_effect f t v) (sym c.check_subscription.ensures.answer ∙ c.in-Ok.is) in
     record {
       answer = ap Ok (subscription_done f t v _ _ _ is c.enter-operators.ensures.number c.enter-operators.ensures.roll) ∙ accepted;

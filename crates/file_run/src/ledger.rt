@@ -1,0 +1,191 @@
+// The ledger of a run, and how it takes an event with the zone that is moved through it.
+ghost use Rattle.std.specs.Prelude.{◌≡◌};
+ghost use Rattle.refusal.specs.declared.Refusal.TheVariants.{OutOfTurn};
+ghost use Rattle.tariff.specs.Meaning.{Meaning};
+ghost use Rattle.event_file.specs.Entries.{shown_event};
+ghost use Rattle.book.specs.Calls.{opening as call_opening, cabling as call_cabling};
+ghost use Rattle.book.specs.Promises.{prepared, launched_on};
+ghost use Rattle.file_run.specs.Taking.{call_of};
+ghost use Rattle.file_run.specs.Zones.{state_in, tables_of, ComesTo, StaysLaunched};
+
+use crate::report::{REGISTER_PLACES, ROLL_PLACES};
+use crate::zone_state::ZoneState;
+use book::entries::{RegisterEntry, RollEntry};
+use book::launched::LaunchedZone;
+use book::lines::Line;
+use book::outcome::Refused;
+use book::prepared::PreparedZone;
+use event_file::event::FileEvent;
+use refusal::Refusal;
+use tariff::tariff::Tariff;
+
+// A share-out among 16 operators for 64 objects has at most as many lines.
+pub(crate) const STRIP_PLACES: usize = 1024;
+
+// The ledger of a run: the two tables of its zone, and the strip that the calls write their lines on. It holds the
+// tables themselves, so that their lengths stand in its type and in no contract. The sheet stays beside it: no call
+// changes that.
+#[derive(Drop)]
+pub(crate) struct Ledger {
+    pub(crate) roll: [RollEntry; ROLL_PLACES],
+    pub(crate) register: [RegisterEntry; REGISTER_PLACES],
+    pub(crate) strip: [Line; STRIP_PLACES],
+}
+
+// A zone that takes no call of a kind is left as it was.
+fn out_of_turn<Z>(zone: Z) -> Refused<Z>
+    ensures refusal { result.refusal ≡ OutOfTurn }
+    ensures kept { result.kept ≡ zone }
+{
+    Refused {
+        refusal: Refusal::OutOfTurn,
+        kept: zone,
+    }
+}
+
+impl Ledger {
+    // The zone after an event, or why it refuses it and the zone as it was.
+    pub(crate) fn taken<T: Tariff>(
+        &mut self,
+        zone: ZoneState,
+        sheet: &T,
+        event: FileEvent<'_>,
+    ) -> Result<ZoneState, Refused<ZoneState>>
+        ensures answer { ComesTo state_in state_in (T.meaning sheet.now) (state_in zone (tables_of self.old)) (call_of (shown_event event.entry)) (tables_of self.new) result }
+    {
+        match zone {
+            ZoneState::Prepared(prepared) => self.taken_before_launch(prepared, event).map_err(
+                |Refused { refusal, kept }| Refused {
+                    refusal,
+                    kept: ZoneState::Prepared(kept),
+                },
+            ),
+            ZoneState::Launched(launched) => self
+                .taken_after_launch(launched, sheet, event)
+                .map(ZoneState::Launched)
+                .map_err(|Refused { refusal, kept }| Refused {
+                    refusal,
+                    kept: ZoneState::Launched(kept),
+                }),
+        }
+    }
+
+    // Before its launch a zone takes commitments, raises and the launch.
+    fn taken_before_launch(
+        &mut self,
+        zone: PreparedZone,
+        event: FileEvent<'_>,
+    ) -> Result<ZoneState, Refused<PreparedZone>>
+        ensures answer { (m : Meaning) → ComesTo state_in prepared m (prepared zone (tables_of self.old)) (call_of (shown_event event.entry)) (tables_of self.new) result }
+    {
+        let (roll, register) = (&mut self.roll, &self.register);
+        match event {
+            FileEvent::Commitment {
+                date,
+                operator,
+                rate,
+                ..
+            } => {
+                let after = zone.commitment(roll, register, date, operator, rate)?;
+                Ok(ZoneState::Prepared(after))
+            }
+            FileEvent::Raise {
+                date,
+                operator,
+                rate,
+                ..
+            } => {
+                let raised = zone.raise(roll, register, date, operator, rate)?;
+                Ok(ZoneState::Prepared(raised))
+            }
+            FileEvent::Launch { date, .. } => {
+                let launched = zone.launch(roll, register, date)?;
+                Ok(ZoneState::Launched(launched))
+            }
+            FileEvent::Opening { .. } | FileEvent::Cabling { .. } => Err(out_of_turn(zone)),
+        }
+    }
+
+    // After its launch a zone takes everything but a launch.
+    fn taken_after_launch<T: Tariff>(
+        &mut self,
+        zone: LaunchedZone,
+        sheet: &T,
+        event: FileEvent<'_>,
+    ) -> Result<LaunchedZone, Refused<LaunchedZone>>
+        ensures answer { StaysLaunched (T.meaning sheet.now) (launched_on zone (tables_of self.old)) (call_of (shown_event event.entry)) (tables_of self.new) result }
+    {
+        match event {
+            FileEvent::Commitment {
+                date,
+                operator,
+                rate,
+                ..
+            } => self.commitment(zone, sheet, date, operator, rate),
+            FileEvent::Raise {
+                date,
+                operator,
+                rate,
+                ..
+            } => self.raise(zone, sheet, date, operator, rate),
+            FileEvent::Opening {
+                date,
+                object,
+                dwellings,
+                ..
+            } => self.opening(zone, sheet, date, object, dwellings),
+            FileEvent::Cabling {
+                date,
+                object,
+                dwellings,
+                third_party,
+                ..
+            } => self.cabling(zone, sheet, date, object, third_party, dwellings),
+            FileEvent::Launch { .. } => Err(out_of_turn(zone)),
+        }
+    }
+}
+
+// The two differ in the call alone: passed in as a closure, it would take as many lines as each has. A cabling is by a third
+// party or not, a yes or no as in the call.
+impl Ledger {
+    pub(crate) fn opening<T: Tariff>(
+        &mut self,
+        zone: LaunchedZone,
+        sheet: &T,
+        date: u32,
+        object: u32,
+        dwellings: u32,
+    ) -> Result<LaunchedZone, Refused<LaunchedZone>>
+        ensures answer { StaysLaunched (T.meaning sheet.now) (launched_on zone (tables_of self.old)) (call_opening date object dwellings) (tables_of self.new) result }
+    {
+        let (roll, register, strip) = (&self.roll, &mut self.register, &mut self.strip);
+        let done = zone.opening(sheet, roll, register, strip, date, object, dwellings)?;
+        Ok(done.zone)
+    }
+
+    pub(crate) fn cabling<T: Tariff>(
+        &mut self,
+        zone: LaunchedZone,
+        sheet: &T,
+        date: u32,
+        object: u32,
+        third_party: bool,
+        dwellings: u32,
+    ) -> Result<LaunchedZone, Refused<LaunchedZone>>
+        ensures answer { StaysLaunched (T.meaning sheet.now) (launched_on zone (tables_of self.old)) (call_cabling date object third_party dwellings) (tables_of self.new) result }
+    {
+        let (roll, register, strip) = (&self.roll, &mut self.register, &mut self.strip);
+        let done = zone.cabling(
+            sheet,
+            roll,
+            register,
+            strip,
+            date,
+            object,
+            third_party,
+            dwellings,
+        )?;
+        Ok(done.zone)
+    }
+}
