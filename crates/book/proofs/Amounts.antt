@@ -5,6 +5,8 @@ use Rattle.std.specs.List.{AllByRecursion}
 use Rattle.calendar.specs.Days.{is_date}
 use Rattle.tariff.specs.Meaning.{Meaning, Lawful, Answered, PriceLimits}
 use Rattle.tariff.specs.declared.kinds.Kind.{Kind}
+use Rattle.tariff.specs.Bounds.{most_price}
+use Rattle.book.specs.Limits.{most_whole_weight}
 use Rattle.book.specs.Lists.{total}
 use Rattle.book.specs.Members.{Member, rate_of, weighed, weight_to, whole_weight, Addition}
 use Rattle.unit_prices.specs.Prices.{price_at, unit_contribution, earlier}
@@ -49,7 +51,7 @@ weights_each : (m : Meaning) → Lawful m → (n : ℕ) (xs : List Member) → A
 weights_each m law n [] h r = tt
 weights_each m law n (x ∷ xs) h r = (weight_most m law n x.tranches h.0 r.0, weights_each m law n xs h.1 r.1)
 
-pub weights_most : (m : Meaning) → Lawful m → (n : ℕ) (xs : List Member) → AllByRecursion Shaped xs → AllByRecursion Rated xs → length xs ≤ 16 → whole_weight m n xs ≤ 64000
+pub weights_most : (m : Meaning) → Lawful m → (n : ℕ) (xs : List Member) → AllByRecursion Shaped xs → AllByRecursion Rated xs → length xs ≤ 16 → whole_weight m n xs ≤ most_whole_weight
 weights_most m law n xs h r short = let t = total_most (λ x. weight_to m n x.tranches) 4000 xs (weights_each m law n xs h r) in omega arith
 
 -- what the tables' check leaves of an object: its dwellings, and a real day
@@ -61,6 +63,6 @@ real_day o sized = let (few, real) = sized in real
 
 pub amount_most : (m : Meaning) → Lawful m → (a : Addition) → a.tranches ≤ 20 → (o : RegisterEntry) → Sized o → object_contribution m a o ≤ 5000000000000 * a.tranches
 amount_most m law a few o sized =
-    let u : unit_contribution m o.kind o.installed a.date a.tranches ≤ 500000000 * a.tranches =
+    let u : unit_contribution m o.kind o.installed a.date a.tranches ≤ most_price * a.tranches =
     unit_most m law o.kind o.installed a.date a.tranches sized.1 few in
-    let p : object_contribution m a o ≤ 500000000 * a.tranches * 10000 = mul-le-mul u sized.0 in omega arith
+    let p : object_contribution m a o ≤ most_price * a.tranches * 10000 = mul-le-mul u sized.0 in omega arith

@@ -8,6 +8,7 @@ use Rattle.std.proofs.ByRecursion.{All-get_or}
 use Rattle.std.proofs.lemmas.List.{length-append, length-drop, drop-drop, drop-set-lt, set-get_or, take_more, take_more_set, take_all, get_or-drop, at_drop_more, at_drop_all, map-append}
 use Rattle.std.proofs.lemmas.Bool.{cases_lt, cond-true, cond-false}
 use Rattle.tariff.specs.Meaning.{Meaning, Lawful}
+use Rattle.book.specs.Limits.{most_amount, most_contribution, most_whole_weight}
 use Rattle.book.specs.Lists.{total, written}
 use Rattle.book.specs.Lines.{line}
 use Rattle.book.specs.Members.{member_of, members_of, rate_of, weight_to, whole_weight, Addition}
@@ -26,10 +27,10 @@ due_both (suc n) zero h = let z : ◌≡◌ {A = ℕ} 0 1 = cc in absurd (omega 
 due_both (suc n) (suc w) h = (omega arith, omega arith)
 
 -- a share of a weight within the whole is at most the amount
-pub share_most : (m : Meaning) → Lawful m → (amount weight whole : ℕ) → amount ≤ 100000000000000 → weight ≤ whole → 0 < whole → whole ≤ 64000 → m.rounded (amount * weight) whole ≤ amount
+pub share_most : (m : Meaning) → Lawful m → (amount weight whole : ℕ) → amount ≤ most_contribution → weight ≤ whole → 0 < whole → whole ≤ most_whole_weight → m.rounded (amount * weight) whole ≤ amount
 share_most m law amount weight whole small le some few =
     let r = m.rounded (amount * weight) whole in
-    let fits : amount * weight ≤ 100000000000000 * 64000 = mul-le-mul small (let q : weight ≤ 64000 = omega arith in q) in
+    let fits : amount * weight ≤ most_contribution * most_whole_weight = mul-le-mul small (let q : weight ≤ most_whole_weight = omega arith in q) in
     let near = law.near (amount * weight) whole (omega arith) some (omega arith) in
     let most = mul-le-mul_left amount le in
     ⊎_elim (λ lt. omega arith)
@@ -92,7 +93,7 @@ module _ (m : Meaning) (a : Addition) (whole : ℕ) (o : RegisterEntry) (roll₁
     pub rest : drop i roll ≡ drop i roll₁
     pub lines : Writing at strip₁ (lines_of m a whole o roll₁) (lines_of m a whole o (drop i roll₁)) n strip
     pub sum : paid + sums (lines_of m a whole o (drop i roll₁)) ≡ paid₁ + sums (lines_of m a whole o roll₁)
-    pub most : paid ≤ paid₁ + 100000000000000 * i
+    pub most : paid ≤ paid₁ + most_contribution * i
 
   pub inner_start : Inner 0 at paid₁ roll₁ strip₁
   inner_start = record { front = refl; rest = refl; lines = at_start at strip₁ (lines_of m a whole o roll₁); sum = refl; most = omega arith }
@@ -136,7 +137,7 @@ module _ {m : Meaning} {a : Addition} {whole : ℕ} {o : RegisterEntry} {roll₁
       share_here =
           cond-true _ _ _ (sym due_is ∙ due) ∙ mul-one _ ∙ (λ k. m.rounded (sym is_a k * sym is_w k) whole)
 
-      pub inner_yes : (part : ℕ) → part ≡ m.rounded (amount * weight) whole → part ≤ 100000000000000 → (x : Line) → x ≡ line Credit (get_or roll i d).operator o.object part 1 →
+      pub inner_yes : (part : ℕ) → part ≡ m.rounded (amount * weight) whole → part ≤ most_contribution → (x : Line) → x ≡ line Credit (get_or roll i d).operator o.object part 1 →
           Inner m a whole o roll₁ strip₁ at paid₁ (i + 1) (n + 1) (paid + part)
           (set roll i (record { operator = (get_or roll i d).operator; tranches = (get_or roll i d).tranches; balance = (get_or roll i d).balance + part })) (set strip n x)
       inner_yes part is_p small x is_x =
@@ -191,13 +192,13 @@ module _ (m : Meaning) (a : Addition) (whole : ℕ) (os : List RegisterEntry) (r
     pub entries : map (paid_all m a whole (drop k os)) roll ≡ map (paid_all m a whole os) roll₀
     pub weighs : whole ≡ whole_weight m a.index (members_of roll)
     pub rates : AllByRecursion (λ e. rate_of e.tranches ≤ 20) roll
-    pub balances : AllByRecursion (λ e. e.balance ≤ 4000000000000000000 + 100000000000000 * k) roll
+    pub balances : AllByRecursion (λ e. e.balance ≤ most_amount + most_contribution * k) roll
     pub given : brought + total (object_contribution m a) (drop k os) ≡ total (object_contribution m a) os
-    pub given_most : brought ≤ 100000000000000 * k
+    pub given_most : brought ≤ most_contribution * k
     pub sum : paid + sums (lines_all m a whole (drop k os) roll) ≡ sums (lines_all m a whole os roll₀)
     pub sum_most : paid ≤ 1600000000000000 * k
 
-  pub outer_start : whole ≡ whole_weight m a.index (members_of roll₀) → AllByRecursion (λ e. rate_of e.tranches ≤ 20) roll₀ → AllByRecursion (λ e. e.balance ≤ 4000000000000000000) roll₀ → Outer 0 0 0 0 roll₀ strip₀
+  pub outer_start : whole ≡ whole_weight m a.index (members_of roll₀) → AllByRecursion (λ e. rate_of e.tranches ≤ 20) roll₀ → AllByRecursion (λ e. e.balance ≤ most_amount) roll₀ → Outer 0 0 0 0 roll₀ strip₀
   outer_start is rates held = record {
     lines = at_start 0 strip₀ (lines_all m a whole os roll₀);
     entries = refl;
@@ -215,17 +216,17 @@ paid_rates : (m : Meaning) (a : Addition) (whole : ℕ) (o : RegisterEntry) (rol
 paid_rates m a whole o [] h = tt
 paid_rates m a whole o (e ∷ es) h = (h.0, paid_rates m a whole o es h.1)
 
-paid_balances : (m : Meaning) (a : Addition) (whole : ℕ) (o : RegisterEntry) (b : ℕ) → ((e : RollEntry) → weight_to m a.index e.tranches ≤ whole → share_of m a whole o e.tranches ≤ 100000000000000) →
-    (roll : List RollEntry) → whole_weight m a.index (members_of roll) ≤ whole → AllByRecursion (λ e. e.balance ≤ b) roll → AllByRecursion (λ e. e.balance ≤ b + 100000000000000) (map (paid_of m a whole o) roll)
+paid_balances : (m : Meaning) (a : Addition) (whole : ℕ) (o : RegisterEntry) (b : ℕ) → ((e : RollEntry) → weight_to m a.index e.tranches ≤ whole → share_of m a whole o e.tranches ≤ most_contribution) →
+    (roll : List RollEntry) → whole_weight m a.index (members_of roll) ≤ whole → AllByRecursion (λ e. e.balance ≤ b) roll → AllByRecursion (λ e. e.balance ≤ b + most_contribution) (map (paid_of m a whole o) roll)
 paid_balances m a whole o b most [] le h = tt
 paid_balances m a whole o b most (e ∷ es) le h =
     (let s = most e (omega arith) in omega (arith, h.0), paid_balances m a whole o b most es (omega arith) h.1)
 
-share_small : (m : Meaning) → Lawful m → (a : Addition) (whole : ℕ) → whole ≤ 64000 → (o : RegisterEntry) → object_contribution m a o ≤ 100000000000000 → (e : RollEntry) → weight_to m a.index e.tranches ≤ whole →
-    share_of m a whole o e.tranches ≤ 100000000000000
+share_small : (m : Meaning) → Lawful m → (a : Addition) (whole : ℕ) → whole ≤ most_whole_weight → (o : RegisterEntry) → object_contribution m a o ≤ most_contribution → (e : RollEntry) → weight_to m a.index e.tranches ≤ whole →
+    share_of m a whole o e.tranches ≤ most_contribution
 share_small m law a whole few o small e le = go (serves (amount_divided m a o) (weight_to m a.index e.tranches)) refl
   where
-    go : (b : Bool) → serves (amount_divided m a o) (weight_to m a.index e.tranches) ≡ b → cond b (m.rounded (amount_divided m a o * weight_to m a.index e.tranches) whole * 1) 0 ≤ 100000000000000
+    go : (b : Bool) → serves (amount_divided m a o) (weight_to m a.index e.tranches) ≡ b → cond b (m.rounded (amount_divided m a o * weight_to m a.index e.tranches) whole * 1) 0 ≤ most_contribution
     go false q = omega arith
     go true q =
         let p = due_both (amount_divided m a o) (weight_to m a.index e.tranches) q in
@@ -241,7 +242,7 @@ module _ {m : Meaning} {a : Addition} {whole : ℕ} {os : List RegisterEntry} {r
   object_room =
       omega (arith, s.lines.count, ap length lines_next, length-append (lines_of m a whole (get_or os k d) roll) (lines_all m a whole (drop (k + 1) os) roll))
 
-  pub outer_next : Lawful m → whole ≤ 64000 → length roll ≤ 16 → (amount : ℕ) → amount ≡ object_contribution m a (get_or os k d) → amount ≤ 100000000000000 → (n' paid' : ℕ) (roll' : List RollEntry) (strip' : List Line) →
+  pub outer_next : Lawful m → whole ≤ most_whole_weight → length roll ≤ 16 → (amount : ℕ) → amount ≡ object_contribution m a (get_or os k d) → amount ≤ most_contribution → (n' paid' : ℕ) (roll' : List RollEntry) (strip' : List Line) →
       Turned m a whole (get_or os k d) roll strip n paid n' paid' roll' strip' → paid' ≤ paid + 1600000000000000 → Outer m a whole os roll₀ strip₀ (k + 1) n' (brought + amount) paid' roll' strip'
   outer_next law few short amount is_a small n' paid' roll' strip' t most =
       let o = get_or os k d in
@@ -259,9 +260,9 @@ module _ {m : Meaning} {a : Addition} {whole : ℕ} {os : List RegisterEntry} {r
         weighs = s.weighs ∙ sym (ap (λ es. whole_weight m a.index (members_of es)) t.entries ∙ weight_blind m a whole (λ e. share_of m a whole o e.tranches) roll);
         rates = subst (AllByRecursion (λ e. rate_of e.tranches ≤ 20)) (sym t.entries) (paid_rates m a whole o roll s.rates);
         balances =
-            subst (AllByRecursion (λ e. e.balance ≤ 4000000000000000000 + 100000000000000 * (k + 1))) (sym t.entries)
+            subst (AllByRecursion (λ e. e.balance ≤ most_amount + most_contribution * (k + 1))) (sym t.entries)
             (all_also (λ e b. omega arith) _
-            (paid_balances m a whole o (4000000000000000000 + 100000000000000 * k) (share_small m law a whole few o (omega arith)) roll (let w = s.weighs in omega arith) s.balances));
+            (paid_balances m a whole o (most_amount + most_contribution * k) (share_small m law a whole few o (omega arith)) roll (let w = s.weighs in omega arith) s.balances));
         given = omega (arith, s.given, g);
         given_most = omega (arith, s.given_most);
         sum = omega (arith, s.sum, t.sum, ap sums here, parts);
@@ -286,8 +287,8 @@ module _ {m : Meaning} {a : Addition} {whole : ℕ} {os : List RegisterEntry} {r
   pub rate_in : (i : ℕ) (d : RollEntry) → i < length roll → rate_of (get_or roll i d).tranches ≤ 20
   rate_in i d h = All-get_or (λ e. rate_of e.tranches ≤ 20) roll i d h s.rates
 
-  pub balance_in : (i : ℕ) (d : RollEntry) → i < length roll → (get_or roll i d).balance ≤ 4000000000000000000 + 100000000000000 * k
-  balance_in i d h = All-get_or (λ e. e.balance ≤ 4000000000000000000 + 100000000000000 * k) roll i d h s.balances
+  pub balance_in : (i : ℕ) (d : RollEntry) → i < length roll → (get_or roll i d).balance ≤ most_amount + most_contribution * k
+  balance_in i d h = All-get_or (λ e. e.balance ≤ most_amount + most_contribution * k) roll i d h s.balances
 
   pub weight_within : (i : ℕ) (d : RollEntry) → i < length roll → weight_to m a.index (get_or roll i d).tranches ≤ whole
   weight_within i d h = let p = weights_part roll i d h in let w = s.weighs in omega arith
@@ -303,14 +304,14 @@ module _ {m : Meaning} {a : Addition} {whole : ℕ} {os : List RegisterEntry} {r
   pub turn_weight : (weight : ℕ) → weight ≡ weight_to m a.index (get_or roll i d).tranches → weight ≤ whole
   turn_weight weight is = let r = weight_within s i d (there t d h) in let e = ap (λ (x : RollEntry). weight_to m a.index x.tranches) (read t d h) in omega arith
 
-  pub turn_balance : (get_or roll i d).balance ≤ 4000000000000000000 + 100000000000000 * k
+  pub turn_balance : (get_or roll i d).balance ≤ most_amount + most_contribution * k
   turn_balance = let r = balance_in s i d (there t d h) in let e = ap (λ (x : RollEntry). x.balance) (read t d h) in omega arith
 
   module _ (amount weight : ℕ) (is_w : weight ≡ weight_to m a.index (get_or roll i d).tranches) (due : serves amount weight ≡ true) where
     pub turn_whole : 0 < whole
     turn_whole = let p = due_both amount weight due in let w = turn_weight weight is_w in omega arith
 
-    pub turn_part : Lawful m → whole ≤ 64000 → amount ≤ 100000000000000 → m.rounded (amount * weight) whole ≤ 100000000000000
+    pub turn_part : Lawful m → whole ≤ most_whole_weight → amount ≤ most_contribution → m.rounded (amount * weight) whole ≤ most_contribution
     turn_part law few small = let p = share_most m law amount weight whole small (turn_weight weight is_w) turn_whole few in omega arith
 
 -- the whole weight that the code has is that of the roll

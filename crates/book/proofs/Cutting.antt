@@ -7,6 +7,7 @@ use Rattle.calendar.specs.Days.{is_date}
 use Rattle.tariff.specs.Meaning.{Meaning, Lawful, Near, Answered, CoefficientLimits}
 use Rattle.tariff.specs.declared.kinds.Kind.{Kind}
 use Rattle.tariff.specs.declared.kinds.Coefficient.{Coefficient}
+use Rattle.tariff.specs.Bounds.{most_price}
 use Rattle.book.specs.Lists.{total}
 use Rattle.book.specs.Lines.{line, shows, unit_of, unit_shown}
 use Rattle.book.specs.Members.{Addition}
@@ -67,7 +68,7 @@ scaled_apart m law p c d pos small ks fits =
     record { over = omega arith; under = omega arith }
 
 module _ (m : Meaning) (law : Lawful m) (kind : Kind) (installed date : ℕ) (ks : List ℕ) (few : total (λ k. k) ks ≤ 20) (real : T (is_date installed)) (today : T (is_date date)) where
-  low : price_at m kind installed ≤ 500000000
+  low : price_at m kind installed ≤ most_price
   low = price_most m law kind installed real
 
   price_apart : Apart (length ks) (unit_price m kind installed date (total (λ k. k) ks)) (total (λ k. unit_price m kind installed date k) ks)
@@ -80,8 +81,8 @@ module _ (m : Meaning) (law : Lawful m) (kind : Kind) (installed date : ℕ) (ks
       go true =
           let c = coefficient_at m installed date in
           let f : CoefficientLimits c = limits_of (m.coefficient installed date) (law.coefficients installed date real today) in
-          let x : price_at m kind installed * c.numerator ≤ 500000000 * 480000000 = mul-le-mul low f.most in
-          let y : price_at m kind installed * c.numerator * total (λ k. k) ks ≤ 500000000 * 480000000 * 20 = mul-le-mul x few in
+          let x : price_at m kind installed * c.numerator ≤ most_price * 480000000 = mul-le-mul low f.most in
+          let y : price_at m kind installed * c.numerator * total (λ k. k) ks ≤ most_price * 480000000 * 20 = mul-le-mul x few in
           scaled_apart m law (price_at m kind installed) c.numerator c.denominator f.some f.small ks (omega arith)
 
   contribution_apart : Apart (length ks) (unit_contribution m kind installed date (total (λ k. k) ks)) (total (λ k. unit_contribution m kind installed date k) ks)
@@ -91,8 +92,8 @@ module _ (m : Meaning) (law : Lawful m) (kind : Kind) (installed date : ℕ) (ks
           (total (λ k. cond b (m.rounded (price_at m kind installed * k * m.contribution) 100) 0) ks)
       go false = let t = total_zero ks in record { over = omega arith; under = omega arith }
       go true =
-          let x : price_at m kind installed * m.contribution ≤ 500000000 * 100 = mul-le-mul low law.contributions in
-          let y : price_at m kind installed * m.contribution * total (λ k. k) ks ≤ 500000000 * 100 * 20 = mul-le-mul x few in
+          let x : price_at m kind installed * m.contribution ≤ most_price * 100 = mul-le-mul low law.contributions in
+          let y : price_at m kind installed * m.contribution * total (λ k. k) ks ≤ most_price * 100 * 20 = mul-le-mul x few in
           scaled_apart m law (price_at m kind installed) m.contribution 100 (omega arith) (omega arith) ks (omega arith)
 
 -- the units that a bill shows for an object, object by object

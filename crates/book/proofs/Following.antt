@@ -42,8 +42,8 @@ only_strip m f day t places v ok room effect =
 
 -- a strip that is too short, and one that is not
 by_strip : {A : Type 0} (room lines : ℕ) (a : A) (b : Bool) → ltb room lines ≡ b →
-    in_turn (strip_checks room lines ∷ []) a ≡ then_do (unless (cond b (Some StripTooShort) None) (tt {0})) (λ _. Ok a)
-by_strip room lines a b is = ap (λ c. then_do (unless (cond c (Some StripTooShort) None) (tt {0})) (λ _. Ok a)) is
+    in_turn (strip_checks room lines ∷ []) a ≡ then_do (unless (cond b (Some StripTooShort) None) (tt {0})) (Ok a)
+by_strip room lines a b is = ap (λ c. then_do (unless (cond c (Some StripTooShort) None) (tt {0})) (Ok a)) is
 
 pub share_out_follows : ShareOutFollows StripTooShort
 share_out_follows m f day t places v billed e room =

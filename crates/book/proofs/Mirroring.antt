@@ -5,6 +5,7 @@ use Rattle.std.specs.List.{AllByRecursion}
 use Rattle.calendar.specs.Days.{index_of}
 use Rattle.tariff.specs.Meaning.{Meaning, Lawful}
 use Rattle.checks.specs.Tables.{one_of}
+use Rattle.book.specs.Limits.{most_credit_lines}
 use Rattle.book.specs.Lists.{total}
 use Rattle.book.specs.Members.{Member, member_of, members_of, rate_of, member, present_rate, Addition, addition, entered_members, whole_weight}
 use Rattle.book.specs.Sharing.{object_contribution, payout, credits, left_unshared}
@@ -54,7 +55,7 @@ pub record Bounds (T : Tally) : Type 0 where
   pub rated : AllByRecursion Rated T.members
   pub credited : T.totals.credited ≡ total (λ x. x.balance) T.members
   pub contributed : T.totals.contributed ≤ 5120000000000000 * rates_of T.members
-  pub lines : T.totals.credit_lines ≤ 16384 * rates_of T.members
+  pub lines : T.totals.credit_lines ≤ most_credit_lines * rates_of T.members
   pub within : Within T.totals.credit_lines T.totals.contributed (total (λ x. x.balance) T.members + T.totals.unshared)
 
 pub record Mirror (T : Tally) (s : State) : Type 0 where

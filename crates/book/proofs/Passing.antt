@@ -30,7 +30,7 @@ none_holds (c ∷ cs) ok = let (passes, rest) = ok in rw passes (none_holds cs r
 
 -- a place that passed leaves the rest
 pub past : {A : Type 0} (place : List Check) (places : List (List Check)) (a : A) → Clear place → in_turn (place ∷ places) a ≡ in_turn places a
-past place places a ok = ap (λ x. then_do (unless x (tt {0})) (λ _. in_turn places a)) (none_holds place ok)
+past place places a ok = ap (λ x. then_do (unless x (tt {0})) (in_turn places a)) (none_holds place ok)
 
 -- what holds of a refusal, and of the effect where no condition holds, holds of the answer
 pub settles : {A : Type 0} (places : List (List Check)) (effect : A) (P : Result A Refusal → Type 0) →
@@ -38,7 +38,7 @@ pub settles : {A : Type 0} (places : List (List Check)) (effect : A) (P : Result
 settles [] effect P no' yes' = yes' tt
 settles (place ∷ places) effect P no' yes' = go (first place) refl (λ passes. settles places effect P no' (λ rest. yes' (passes, rest)))
   where
-    go : (x : Option Refusal) → first place ≡ x → (Clear place → P (in_turn places effect)) → P (then_do (unless x (tt {0})) (λ _. in_turn places effect))
+    go : (x : Option Refusal) → first place ≡ x → (Clear place → P (in_turn places effect)) → P (then_do (unless x (tt {0})) (in_turn places effect))
     go None e further = further (clear place e)
     go (Some r) e further = no' r
 

@@ -6,7 +6,8 @@ use Rattle.calendar.specs.Days.{is_date}
 use Rattle.tariff.specs.Meaning.{Meaning, Lawful, CoefficientLimits}
 use Rattle.tariff.specs.declared.kinds.Kind.{Kind}
 use Rattle.checks.specs.Numbers.{most_dwellings}
-use Rattle.book.specs.Limits.{most_amount}
+use Rattle.tariff.specs.Bounds.{most_price}
+use Rattle.book.specs.Limits.{most_amount, most_after_share_out, most_contribution, most_whole_weight}
 use Rattle.checks.specs.Tables.{one_of}
 use Rattle.book.specs.Lists.{total}
 use Rattle.book.specs.Lines.{line}
@@ -44,8 +45,8 @@ use Rattle.book.proofs.Mirroring.{mirrors, members_rated, objects_sized, given_i
 abbrev pub Fits : Line → Type 0
 Fits l = (l.unit ≤ most_amount) × (l.total ≤ most_amount)
 
-pub line_fits : (n : Nature) (op ob u q : ℕ) → u ≤ 100000000000000 → q ≤ 10000 → Fits (line n op ob u q)
-line_fits n op ob u q h k = let p : u * q ≤ 100000000000000 * 10000 = mul-le-mul h k in (omega arith, omega arith)
+pub line_fits : (n : Nature) (op ob u q : ℕ) → u ≤ most_contribution → q ≤ 10000 → Fits (line n op ob u q)
+line_fits n op ob u q h k = let p : u * q ≤ most_contribution * 10000 = mul-le-mul h k in (omega arith, omega arith)
 
 -- the lines of a bill
 module _ (m : Meaning) (law : Lawful m) (a : Addition) (few : a.tranches ≤ 20) (today : T (is_date a.date)) where
@@ -63,18 +64,18 @@ module _ (m : Meaning) (law : Lawful m) (a : Addition) (few : a.tranches ≤ 20)
 pub charged_fits : (m : Meaning) → Lawful m → (o : RegisterEntry) → Sized o → (xs : List Member) → AllByRecursion Rated xs → AllByRecursion Fits (charged m o xs)
 charged_fits m law o sized [] rated = tt
 charged_fits m law o sized (x ∷ xs) rated =
-    let p : price_at m o.kind o.installed * rate_of x.tranches ≤ 500000000 * 20 = mul-le-mul (price_most m law o.kind o.installed sized.1) rated.0 in
+    let p : price_at m o.kind o.installed * rate_of x.tranches ≤ most_price * 20 = mul-le-mul (price_most m law o.kind o.installed sized.1) rated.0 in
     (line_fits Charge x.operator o.object _ o.dwellings (omega arith) sized.0, charged_fits m law o sized xs rated.1)
 
 -- the lines of a share-out: a share is at most what is shared
-module _ (m : Meaning) (law : Lawful m) (a : Addition) (few : a.tranches ≤ 20) (w : ℕ) (most : w ≤ 64000) where
-  pub share_most : (n v : ℕ) → n ≤ 100000000000000 → v ≤ w → serves n v ≡ true → unit_share m n v w ≤ n
+module _ (m : Meaning) (law : Lawful m) (a : Addition) (few : a.tranches ≤ 20) (w : ℕ) (most : w ≤ most_whole_weight) where
+  pub share_most : (n v : ℕ) → n ≤ most_contribution → v ≤ w → serves n v ≡ true → unit_share m n v w ≤ n
   share_most zero v h k e = let z : ◌≡◌ {A = ℕ} 0 1 = cc in absurd (omega arith)
   share_most (suc n) zero h k e = let z : ◌≡◌ {A = ℕ} 0 1 = cc in absurd (omega arith)
   share_most (suc n) (suc v) h k e =
       let p : suc n * suc v ≤ suc n * w = mul-le-mul (omega arith) k in
-      let light : suc v ≤ 64000 = omega arith in
-      let q : suc n * suc v ≤ 100000000000000 * 64000 = mul-le-mul h light in
+      let light : suc v ≤ most_whole_weight = omega arith in
+      let q : suc n * suc v ≤ most_contribution * most_whole_weight = mul-le-mul h light in
       let near = law.near (suc n * suc v) w (omega arith) (omega arith) (omega arith) in
       let o = near.over in
       let d : (suc n + 1) * w ≡ suc n * w + 1 * w = add-mul (suc n) 1 w in
@@ -222,7 +223,7 @@ unshared_most : (b : Bool) (n : ℕ) → cond b n 0 ≤ n
 unshared_most true n = omega arith
 unshared_most false n = omega arith
 
-pub every_share_out_fits : EveryShareOutFits 5000000000000000000
+pub every_share_out_fits : EveryShareOutFits most_after_share_out
 every_share_out_fits m law f day t places v effect few_operators few_objects long_enough e =
     let (clear, is) = accepted_is (settling_checks m f day t places v) (settling_effect m f day t v) effect e in
     let passed = settling_passed m f day t places v clear in
@@ -252,12 +253,12 @@ every_share_out_fits m law f day t places v effect few_operators few_objects lon
     parts_most (λ x. payout m (added f day t v) (whole_weight m (added f day t v).index (counted_members f t)) (counted_register f t) x.tranches) 1000000000000000000 (counted_members f t) (omega arith) in
     let each_balance : AllByRecursion (λ x. x.balance ≤ most_amount) (counted_members f t) =
     all_of (λ x. x.balance ≤ most_amount) member_of (counted_roll f t) (all_also balance_fits (counted_roll f t) (none_of (λ e. one_of (entry_faults e)) (counted_roll f t) passed.tables.entries_sound)) in
-    subst (λ (x : Effect). AmountsFit 5000000000000000000 x.state) is (record {
+    subst (λ (x : Effect). AmountsFit most_after_share_out x.state) is (record {
       contributed = omega arith;
       credited = omega arith;
       unshared = omega arith;
       credit_lines = omega arith;
-      balances = all_under (λ x. x.balance ≤ 5000000000000000000) member_of _
-          (subst (AllByRecursion (λ x. x.balance ≤ 5000000000000000000)) (sym (settled_counted m f day t v))
-          (entered_most add 5000000000000000000 _ (paid_balances pays most_amount 1000000000000000000 (counted_members f t) each_balance each_pay)));
+      balances = all_under (λ x. x.balance ≤ most_after_share_out) member_of _
+          (subst (AllByRecursion (λ x. x.balance ≤ most_after_share_out)) (sym (settled_counted m f day t v))
+          (entered_most add most_after_share_out _ (paid_balances pays most_amount 1000000000000000000 (counted_members f t) each_balance each_pay)));
     })

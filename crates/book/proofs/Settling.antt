@@ -3,6 +3,7 @@ use Rattle.std.proofs.Common.{◌≡◌, ℕ, ◌+◌, ◌*◌, ◌<◌, ◌≤�
 use Rattle.std.specs.List.{AllByRecursion}
 use Rattle.std.proofs.lemmas.Bool.{eqb-true, eqb-false}
 use Rattle.tariff.specs.Meaning.{Meaning, Lawful}
+use Rattle.book.specs.Limits.{most_credit_lines}
 use Rattle.book.specs.Lists.{total}
 use Rattle.book.specs.Members.{Member, members_of, weight_to, whole_weight, Addition, entered_members}
 use Rattle.book.specs.Sharing.{object_contribution, amount_divided, serves, share_of, due_of, payout, left_unshared}
@@ -89,5 +90,5 @@ module _ (m : Meaning) (law : Lawful m) (a : Addition) (few : a.tranches ≤ 20)
     dues_of_each short (o ∷ gs) = (let t = total_most (λ x. due_of m a o x.tranches) 1 xs (dues_each o xs) in omega arith, dues_of_each short gs)
 
     -- a share-out writes at most 16 lines for each of 1,024 objects
-    pub dues_most : length xs ≤ 16 → length os ≤ 1024 → dues_all m a os xs ≤ 16384
+    pub dues_most : length xs ≤ 16 → length os ≤ 1024 → dues_all m a os xs ≤ most_credit_lines
     dues_most short long = let t = total_most (λ o. total (λ x. due_of m a o x.tranches) xs) 16 os (dues_of_each short os) in omega arith

@@ -2,6 +2,7 @@
 use Rattle.std.proofs.Common.{◌≡◌, ℕ, zero, suc, ◌*◌, ◌<◌, ◌≤◌, Bool, true, false, cond, List, [], ◌∷◌, length, refl, ap, ◌∙◌, mul-le-mul, arith}
 use Rattle.std.specs.List.{AllByRecursion}
 use Rattle.tariff.specs.Meaning.{Meaning, Lawful}
+use Rattle.book.specs.Limits.{most_contribution, most_whole_weight}
 use Rattle.book.specs.Lists.{total}
 use Rattle.book.specs.Lines.{line}
 use Rattle.book.specs.Members.{Member, Addition, weight_to, whole_weight}
@@ -50,9 +51,9 @@ module _ (m : Meaning) (a : Addition) where
       Within (dues_all os xs) (total (object_contribution m a) os) (shares_all os xs)
   shares_within law few xs shaped rates short pos [] small = omega arith
   shares_within law few xs shaped rates short pos (o ∷ os) small =
-      let w : whole_weight m a.index xs ≤ 64000 = weights_most m law a.index xs shaped rates short in
-      let q : object_contribution m a o ≤ 100000000000000 = let r = amount_most m law a few o small.0 in omega arith in
-      let p : object_contribution m a o * whole_weight m a.index xs ≤ 100000000000000 * 64000 = mul-le-mul q w in
+      let w : whole_weight m a.index xs ≤ most_whole_weight = weights_most m law a.index xs shaped rates short in
+      let q : object_contribution m a o ≤ most_contribution = let r = amount_most m law a few o small.0 in omega arith in
+      let p : object_contribution m a o * whole_weight m a.index xs ≤ most_contribution * most_whole_weight = mul-le-mul q w in
       within_add (total (λ x. due_of m a o x.tranches) xs) _ (object_contribution m a o) _ _ _
       (conserved (λ x. weight_to m a.index x.tranches) m law (object_contribution m a o) xs (omega arith) pos (omega arith))
       (shares_within law few xs shaped rates short pos os small.1)

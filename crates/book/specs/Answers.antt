@@ -51,13 +51,17 @@ launching_checks f t date =
     date_checks f date ∷ []
 
 abbrev pub launching_effect : Figures → Tables → ℕ → Effect
-launching_effect f t date = record { state = record { figures = dated date f; phase = launched date; tables = t }; lines = [] }
+launching_effect f t date = record {
+  state = record { figures = dated date f; phase = launched date; tables = t };
+  lines = [];
+}
 
 abbrev pub launching : Figures → Tables → ℕ → Answer
 launching f t date = in_turn (launching_checks f t date) (launching_effect f t date)
 
 -- An opening or cabling enters its object last and charges each operator.
-abbrev pub installation_checks : Meaning → Figures → ℕ → Tables → ℕ → RegisterEntry → List (List Check)
+abbrev pub installation_checks :
+    Meaning → Figures → ℕ → Tables → ℕ → RegisterEntry → List (List Check)
 installation_checks m f launch_date t places o =
     table_checks f t ∷
     launched_date_checks f launch_date o.installed ∷
@@ -80,13 +84,16 @@ installation_effect m f launch_date t o = record {
 
 abbrev pub installation : Meaning → Figures → ℕ → Tables → ℕ → RegisterEntry → Answer
 installation m f launch_date t places o =
-    in_turn (installation_checks m f launch_date t places o) (installation_effect m f launch_date t o)
+    in_turn (installation_checks m f launch_date t places o)
+    (installation_effect m f launch_date t o)
 
--- What an event adds to a launched zone: its tranches by the roll as it stands, in the year index of its day.
+-- What an event adds to a launched zone: its tranches by the roll as it stands, in the year index of
+-- its day.
 abbrev pub added : Figures → ℕ → Tables → Event → Addition
 added f launch_date t v = addition (index_of launch_date v.date) v (counted_members f t)
 
--- After the launch a commitment or raise bills every object and opens a levy, which keeps the event; the tables stay.
+-- After the launch a commitment or raise bills every object and opens a levy, which keeps the event;
+-- the tables stay.
 abbrev pub billing_lines : Meaning → Figures → ℕ → Tables → Event → List Line
 billing_lines m f launch_date t v = bill m (added f launch_date t v) (counted_register f t)
 
@@ -108,10 +115,11 @@ abbrev pub billing : Meaning → Figures → ℕ → Tables → ℕ → Event �
 billing m f launch_date t places v =
     in_turn (billing_checks m f launch_date t places v) (billing_effect m f launch_date t v)
 
--- A share-out credits the operators that the event found, then enters the event's tranches. It repeats the checks
--- of tables and roll and the prices; it has no date.
+-- A share-out credits the operators that the event found, then enters the event's tranches. It
+-- repeats the checks of tables and roll and the prices; it has no date.
 abbrev pub settling_lines : Meaning → Figures → ℕ → Tables → Event → List Line
-settling_lines m f launch_date t v = credits m (added f launch_date t v) (counted_register f t) (counted_members f t)
+settling_lines m f launch_date t v =
+    credits m (added f launch_date t v) (counted_register f t) (counted_members f t)
 
 abbrev pub settling_checks : Meaning → Figures → ℕ → Tables → ℕ → Event → List (List Check)
 settling_checks m f launch_date t places v =
@@ -127,26 +135,35 @@ with_credit amount e = record e { balance = e.balance + amount }
 -- Every operator's shares on its balance.
 abbrev pub credited_roll : Meaning → Addition → List RegisterEntry → List RollEntry → List RollEntry
 credited_roll m a objects roll =
-    map (λ e. with_credit (payout m a (whole_weight m a.index (members_of roll)) objects e.tranches) e) roll
+    map
+    (λ e. with_credit (payout m a (whole_weight m a.index (members_of roll)) objects e.tranches) e)
+    roll
 
 abbrev pub settled_roll : Meaning → Figures → ℕ → Tables → Event → List RollEntry
 settled_roll m f launch_date t v =
     entered_roll (added f launch_date t v)
     (credited_roll m (added f launch_date t v) (counted_register f t) (counted_roll f t))
 
--- What is contributed, the lines' totals, what is unshared and the number of lines add to the zone's totals.
+-- What is contributed, the lines' totals, what is unshared and the number of lines add to the zone's
+-- totals.
 abbrev pub settled_totals : Meaning → Figures → ℕ → Tables → Event → Totals
 settled_totals m f launch_date t v = record {
-  contributed = f.totals.contributed + total (object_contribution m (added f launch_date t v)) (counted_register f t);
+  contributed =
+      f.totals.contributed +
+      total (object_contribution m (added f launch_date t v)) (counted_register f t);
   credited = f.totals.credited + total (λ l. l.total) (settling_lines m f launch_date t v);
-  unshared = f.totals.unshared + left_unshared m (added f launch_date t v) (counted_register f t) (counted_members f t);
+  unshared =
+      f.totals.unshared +
+      left_unshared m (added f launch_date t v) (counted_register f t) (counted_members f t);
   credit_lines = f.totals.credit_lines + length (settling_lines m f launch_date t v);
 }
 
 abbrev pub settling_effect : Meaning → Figures → ℕ → Tables → Event → Effect
 settling_effect m f launch_date t v = record {
   state = record {
-    figures = with_totals (settled_totals m f launch_date t v) (counting_operators (length (settled_roll m f launch_date t v)) f);
+    figures =
+        with_totals (settled_totals m f launch_date t v)
+        (counting_operators (length (settled_roll m f launch_date t v)) f);
     phase = launched launch_date;
     tables = with_roll t (settled_roll m f launch_date t v);
   };

@@ -1,7 +1,9 @@
--- The limits of a zone, each named once. Those of a single operator or object stand with the checks of single numbers.
+-- The limits of a zone, each named once. Those of a single operator or object stand with the checks
+-- of single numbers.
 --   most_operators, most_objects    what a zone can count
 --   most_index, years               the last year index, and how many there are from 0
 --   most_amount                     of a balance, a total or a count
+--   most_after_share_out            where a share-out leads to from any accepted tables
 use Rattle.std.specs.Prelude.{ℕ}
 
 abbrev pub most_operators : ℕ
@@ -18,6 +20,9 @@ years = 41
 
 abbrev pub most_amount : ℕ
 most_amount = 4000000000000000000
+
+abbrev pub most_after_share_out : ℕ
+most_after_share_out = 5000000000000000000
 
 -- What follows from them and from the limits of unit prices.
 --   most_contribution      of an object: that of 10,000 dwellings

@@ -14,4 +14,5 @@ written xs old = xs ++ drop (length xs) old
 -- Where an element has the number it is changed, and where none has it the new one stands last.
 abbrev pub placed : {A : Type 0} → (A → ℕ) → ℕ → (A → A) → A → List A → List A
 placed number n change new [] = new ∷ []
-placed number n change new (x ∷ xs) = cond (number x == n) (change x ∷ xs) (x ∷ placed number n change new xs)
+placed number n change new (x ∷ xs) =
+    cond (number x == n) (change x ∷ xs) (x ∷ placed number n change new xs)

@@ -19,7 +19,10 @@ tables roll register = record { roll = roll; register = register }
 abbrev pub tables_in : lent.Tables → Tables
 tables_in t = tables t.roll.now t.register.now
 
--- The checks of a change by what the roll says of its operator: its rate if it has one, and whether a newcomer finds no place.
+-- The checks of a change by what the roll says of its operator: its rate if it has one, and whether
+-- a newcomer finds no place.
 abbrev pub changing : Change → Option ℕ → Bool → ℕ → List Check
 changing Commitment present full rate = (is_some present ⇒ AlreadyOnRoll) ∷ (full ⇒ RollFull) ∷ []
-changing Raise present full rate = (not (is_some present) ⇒ NotOnRoll) ∷ (nat_le rate (unwrap_or present 0) ⇒ RateNotRaised) ∷ []
+changing Raise present full rate =
+    (not (is_some present) ⇒ NotOnRoll) ∷
+    (nat_le rate (unwrap_or present 0) ⇒ RateNotRaised) ∷ []

@@ -28,8 +28,8 @@ use Rattle.book.specs.declared.event.Event.{Event}
 abbrev pub huge : ℕ → Bool
 huge n = nat_lt most_amount n
 
--- Tables. 1: a table shorter than its count, a counted entry outside its limits or repeating a number,
--- or a total, count or balance above the largest amount.
+-- Tables. 1: a table shorter than its count, a counted entry outside its limits or repeating a
+-- number, or a total, count or balance above the largest amount.
 abbrev pub entry_faults : RollEntry → List Bool
 entry_faults e = (e.operator == 0) ∷ bad_rate (rate_of e.tranches) ∷ huge e.balance ∷ []
 
@@ -64,8 +64,8 @@ launched_date_checks f launch_date date =
     (before date f.last ⇒ BeforeLastDate) ∷
     (nat_lt most_index (index_of launch_date date) ⇒ IndexTooHigh) ∷ []
 
--- Roll. 5: operator 0; 6: rate outside 1 to 20; 7: commitment by one on the roll; 8: raise by one not on it;
--- 9: raise not above the present rate; 10: newcomer, and 16 entries or no place.
+-- Roll. 5: operator 0; 6: rate outside 1 to 20; 7: commitment by one on the roll; 8: raise by one
+-- not on it; 9: raise not above the present rate; 10: newcomer, and 16 entries or no place.
 abbrev pub roll_full : Figures → Tables → Bool
 roll_full f t = nat_le most_operators f.operators || nat_le (length t.roll) f.operators
 
@@ -81,7 +81,8 @@ abbrev pub roll_checks : Figures → Tables → Event → List Check
 roll_checks f t v =
     operator_check v.operator ∷ rate_check v.rate ∷ change_checks v.change f t v
 
--- Register. 11: object 0 or present; 12: dwellings outside 1 to 10,000; 13: 1,024 entries or no place.
+-- Register. 11: object 0 or present; 12: dwellings outside 1 to 10,000; 13: 1,024 entries or no
+-- place.
 abbrev pub register_full : Figures → Tables → Bool
 register_full f t = nat_le most_objects f.objects || nat_le (length t.register) f.objects
 
@@ -92,7 +93,8 @@ register_checks f t o =
     dwellings_check o.dwellings ∷
     (register_full f t ⇒ RegisterFull) ∷ []
 
--- Sheet. 14: no price for an object, over all of them; 15: no coefficient where the rule multiplies by it, over all.
+-- Sheet. 14: no price for an object, over all of them; 15: no coefficient where the rule multiplies
+-- by it, over all.
 abbrev pub unpriced : Meaning → RegisterEntry → Bool
 unpriced m o = is_none (m.price o.kind o.installed)
 

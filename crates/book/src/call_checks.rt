@@ -1,4 +1,5 @@
-// All checks of each call, place by place, on what is borrowed: nothing is moved or written before they pass.
+// All checks of each call, place by place, on what is borrowed: nothing is moved or written before
+// they pass.
 ghost use Rattle.std.specs.Prelude.{◌≡◌};
 ghost use Rattle.refusal.specs.Checks.{in_turn};
 ghost use Rattle.book.specs.Answers.{subscription_checks, launching_checks, installation_checks, billing_checks, settling_checks};
@@ -96,8 +97,9 @@ impl OpenLevy {
     ) -> Result<(), Refusal>
         ensures answer { let m = T.meaning sheet.now in
             let f = self.now.zone.core.figures in
+            let day = self.now.zone.launch_date in
             let t = tables_in lent.entry in
-            result ≡ in_turn (settling_checks m f self.now.zone.launch_date t places self.now.event) tt }
+            result ≡ in_turn (settling_checks m f day t places self.now.event) tt }
     {
         check_tables(&self.zone.core.figures, lent)?;
         check_roll(&self.zone.core.figures, lent, &self.event)?;

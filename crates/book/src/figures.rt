@@ -2,22 +2,30 @@
 ghost use Rattle.std.specs.Prelude.{◌≤◌};
 ghost use Rattle.book.specs.Limits.{most_operators, most_objects};
 
-// What share-outs have moved, in micro-euros, and how many credit lines they wrote.
-#[derive(Clone, Copy)]
+/// What share-outs have moved, in micro-euros, and how many credit lines they wrote.
+#[derive(Clone, Copy, PartialEq, Eq, Debug)]
 pub struct Totals {
+    /// What events contributed.
     pub contributed: u64,
+    /// What of it went to balances.
     pub credited: u64,
+    /// What of it nobody was there to take.
     pub unshared: u64,
+    /// How many credit lines were written.
     pub credit_lines: u64,
 }
 
-// The zone's plain numbers: its last date if it has one, the entries that it counts from the start of the tables that its
-// calls are lent, and its totals.
-#[derive(Clone, Copy)]
+/// The zone's plain numbers: its last date if it has one, the entries that it counts from the start of the tables that its
+/// calls are lent, and its totals.
+#[derive(Clone, Copy, PartialEq, Eq, Debug)]
 pub struct Figures {
+    /// The day of the last accepted call with a date, yyyymmdd; a fresh zone has none.
     pub last: Option<u32>,
+    /// How many entries of the roll count, at most 16.
     pub operators: usize,
+    /// How many entries of the register count, at most 1,024.
     pub objects: usize,
+    /// What share-outs have moved.
     pub totals: Totals,
 }
 

@@ -26,8 +26,9 @@ use calendar::year_index;
 use tariff::kinds::Kind;
 use tariff::tariff::Tariff;
 
-// It is moved from call to call.
+/// A launched zone with no levy open. It is moved from call to call.
 #[derive(Drop)]
+#[must_use]
 pub struct LaunchedZone {
     pub(crate) core: Core,
     pub(crate) launch_date: u32,
@@ -36,21 +37,23 @@ pub struct LaunchedZone {
 impl LaunchedZone {
     ghost use Rattle.book.specs.Promises.{launched_on, levied_on, written_answer, written_count, IsAnswered, IsWritten, WholeLifeLaws, CutsFairly};
 
-    // The zone's plain numbers.
+    /// The zone's plain numbers.
     pub const fn figures(&self) -> Figures
         ensures value { (t : spec.Tables) → result ≡ (launched_on self.now t).figures }
     {
         self.core.figures
     }
 
-    // The day of the launch.
+    /// The day of the launch, yyyymmdd.
     pub const fn launch_date(&self) -> u32
         ensures value { (t : spec.Tables) → Some result ≡ launch_day (launched_on self.now t).phase }
     {
         self.launch_date
     }
 
-    // An operator commits itself to a rate and is billed for every object; the levy is to be shared out.
+    /// An operator commits itself to a rate, in tranches, on a day, and is billed for every object: the lines stand on the
+    /// strip from its start, and the levy is to be shared out. Refused by 1 (tables), 2, 3, 4 (date), 5, 6, 7, 10 (roll),
+    /// 14, 15 (sheet), 16 (strip), the first that holds; nothing is changed or written then.
     pub fn commitment<T: Tariff>(
         self,
         sheet: &T,
@@ -78,7 +81,9 @@ impl LaunchedZone {
         self.billed(sheet, roll, register, strip, event)
     }
 
-    // An operator raises its rate and is billed for every object; the levy is to be shared out.
+    /// An operator raises its rate to so many tranches, on a day, and is billed for every object: the lines stand on the
+    /// strip from its start, and the levy is to be shared out. Refused by 1 (tables), 2, 3, 4 (date), 5, 6, 8, 9 (roll),
+    /// 14, 15 (sheet), 16 (strip), the first that holds; nothing is changed or written then.
     pub fn raise<T: Tariff>(
         self,
         sheet: &T,
@@ -109,7 +114,9 @@ impl LaunchedZone {
         self.billed(sheet, roll, register, strip, event)
     }
 
-    // A PM is opened: its dwellings are covered.
+    /// A PM is opened on a day: it enters the register last, its dwellings covered, and each operator is charged on the
+    /// strip. Refused by 1 (tables), 2, 3, 4 (date), 11, 12, 13 (register), 14 (sheet), 16 (strip), the first that holds;
+    /// nothing is changed or written then.
     pub fn opening<T: Tariff>(
         self,
         sheet: &T,
@@ -138,7 +145,8 @@ impl LaunchedZone {
         self.installed(sheet, roll, register, strip, entry)
     }
 
-    // A site is cabled, by a third party or not: the rules ask it as a yes or no, and so does the call.
+    /// A site is cabled on a day, by a third party or not: the rules ask it as a yes or no, and so does the call. It enters
+    /// the register last, and each operator is charged on the strip. Refused as an opening is.
     pub fn cabling<T: Tariff>(
         self,
         sheet: &T,

@@ -1,6 +1,6 @@
 // A zone whose last event is billed and not yet shared out, and the call that it takes: the share-out.
-ghost use Rattle.std.specs.Prelude.{◌≡◌, ◌≤◌, length, IfErr};
-ghost use Rattle.calendar.specs.Days.{index_of};
+ghost use Rattle.std.specs.Prelude.{◌≡◌, ◌≤◌, T as Holds, length, IfErr};
+ghost use Rattle.calendar.specs.Days.{is_date, index_of};
 ghost use Rattle.book.specs.Limits.{most_index};
 ghost use Rattle.book.specs.Calls.{share_out as call_share_out};
 ghost use Rattle.book.specs.Passing.{tables};
@@ -20,32 +20,34 @@ use crate::tables::Tables;
 use calendar::year_index;
 use tariff::tariff::Tariff;
 
-// The launched zone that it goes back to, and the event that it keeps. It takes a share-out and nothing else. It has no
-// `Drop`, so that no code can let it go: a levy may not lapse.
+/// An open levy: the launched zone that it goes back to, and the event that it keeps. It takes a share-out and nothing
+/// else. It has no `Drop`, so that no code can let it go: a levy may not lapse.
+#[must_use]
 pub struct OpenLevy {
     pub(crate) zone: LaunchedZone,
     pub(crate) event: Event,
     ghost in_time: { index_of zone.launch_date event.date ≤ most_index },
+    ghost real: { Holds (is_date event.date) },
 }
 
 impl OpenLevy {
     ghost use Rattle.book.specs.Promises.{launched_on, levied_on, written_answer, written_count, IsAnswered, WholeLifeLaws};
 
-    // The zone's plain numbers.
+    /// The zone's plain numbers.
     pub const fn figures(&self) -> Figures
         ensures value { (t : spec.Tables) → result ≡ (levied_on self.now t).figures }
     {
         self.zone.core.figures
     }
 
-    // The day of the launch.
+    /// The day of the launch, yyyymmdd.
     pub const fn launch_date(&self) -> u32
         ensures value { (t : spec.Tables) → Some result ≡ launch_day (levied_on self.now t).phase }
     {
         self.zone.launch_date
     }
 
-    // The event that is to be shared out.
+    /// The event that is to be shared out.
     pub const fn event(&self) -> Event
         ensures value { (t : spec.Tables) → Some result ≡ open_event (levied_on self.now t).phase }
     {
@@ -59,7 +61,9 @@ impl OpenLevy {
         year_index(self.zone.launch_date, self.event.date)
     }
 
-    // Credits the operators that the event found with their shares, then enters the event's tranches.
+    /// Credits the operators that the event found with their shares, in lines on the strip from its start and on their
+    /// balances, in micro-euros; then enters the event's tranches. Refused by 1 (tables), 5 to 10 (roll), 14 (sheet), 16
+    /// (strip), the first that holds; nothing is changed or written then, and the levy is handed back.
     pub fn share_out<T: Tariff>(
         self,
         sheet: &T,

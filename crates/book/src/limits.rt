@@ -6,31 +6,38 @@ ghost use Rattle.checks.specs.Numbers.{most_tranches, most_dwellings};
 use checks::numbers::{MOST_DWELLINGS, MOST_TRANCHES};
 use tariff::tariff::YEAR_INDICES;
 
-// Operators that a roll can count.
+/// Operators that a roll can count.
 pub const MOST_OPERATORS: usize = 16;
 
-// Objects that a register can count.
+/// Objects that a register can count.
 pub const MOST_OBJECTS: usize = 1024;
 
-// The last year index of a zone's life; indices start at 0.
+/// The last year index of a zone's life; indices start at 0.
 pub const MOST_INDEX: u32 = 40;
 
-// Micro-euros of a balance or a total, and the number of a count.
+/// Micro-euros of a balance or a total, and the number of a count.
 pub const MOST_AMOUNT: u64 = 4_000_000_000_000_000_000;
 
-// All of them in one value.
-#[derive(Clone, Copy)]
+/// All of them in one value.
+#[derive(Clone, Copy, PartialEq, Eq, Debug)]
 pub struct Limits {
+    /// Operators of a roll.
     pub operators: usize,
+    /// Objects of a register.
     pub objects: usize,
+    /// The last year index.
     pub index: u32,
+    /// Year indices, from 0 on.
     pub years: usize,
+    /// Tranches of an operator.
     pub tranches: u32,
+    /// Dwellings of an object.
     pub dwellings: u32,
+    /// Micro-euros of a balance or a total, and the number of a count.
     pub amount: u64,
 }
 
-// The limits are those that the definitions have.
+/// The limits are those that the definitions have.
 pub const fn zone_limits() -> Limits
     ensures operators { result.operators ≡ most_operators }
     ensures objects { result.objects ≡ most_objects }

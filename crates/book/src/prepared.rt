@@ -16,8 +16,9 @@ use crate::launched::LaunchedZone;
 use crate::outcome::Refused;
 use crate::tables::Tables;
 
-// It is moved from call to call.
+/// A zone in preparation. It is moved from call to call.
 #[derive(Drop)]
+#[must_use]
 pub struct PreparedZone {
     pub(crate) core: Core,
 }
@@ -25,7 +26,7 @@ pub struct PreparedZone {
 impl PreparedZone {
     ghost use Rattle.book.specs.Promises.{prepared, launched_on, answered, IsAnswered, LivesBegin, WholeLifeLaws};
 
-    // An empty zone: no date yet, no entry counted, nothing moved.
+    /// An empty zone: no date yet, no entry counted, nothing moved.
     pub const fn new() -> PreparedZone
         ensures value { (t : spec.Tables) → (prepared result t).figures ≡ no_figures }
         ensures life { (m : Meaning) → Lawful m → LivesBegin m result }
@@ -48,14 +49,15 @@ impl PreparedZone {
         }
     }
 
-    // The zone's plain numbers.
+    /// The zone's plain numbers.
     pub const fn figures(&self) -> Figures
         ensures value { (t : spec.Tables) → result ≡ (prepared self.now t).figures }
     {
         self.core.figures
     }
 
-    // An operator commits itself to a rate, without charge.
+    /// An operator commits itself to a rate, in tranches, on a day, without charge: they enter the roll at index 0.
+    /// Refused by 1 (tables), 2, 3 (date), 5, 6, 7, 10 (roll), the first that holds; nothing is changed then.
     pub fn commitment(
         self,
         roll: &mut [RollEntry],
@@ -80,7 +82,8 @@ impl PreparedZone {
         self.subscribed(roll, register, event)
     }
 
-    // An operator raises its rate, without charge.
+    /// An operator raises its rate to so many tranches, on a day, without charge. Refused by 1 (tables), 2, 3 (date), 5, 6,
+    /// 8, 9 (roll), the first that holds; nothing is changed then.
     pub fn raise(
         self,
         roll: &mut [RollEntry],
@@ -105,7 +108,7 @@ impl PreparedZone {
         self.subscribed(roll, register, event)
     }
 
-    // Launches the zone on a date, with its tables as they are.
+    /// Launches the zone on a date, with its tables as they are. Refused by 1 (tables), 2, 3 (date), the first that holds.
     pub fn launch(
         self,
         roll: &[RollEntry],

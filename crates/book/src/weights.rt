@@ -17,7 +17,7 @@ pub(crate) fn rate_of(tranches: &[u32; YEAR_INDICES]) -> u64
 }
 
 impl RollEntry {
-    // The operator's rate.
+    /// The operator's rate.
     pub fn rate(&self) -> u64
         ensures value { result ≡ rate_of self.now.tranches }
     {

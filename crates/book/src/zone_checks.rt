@@ -45,7 +45,8 @@ pub(crate) fn check_launched_date(
 
 // The entry of an operator, if it has one.
 fn entry_of(roll: &[RollEntry], operator: u32) -> Option<&RollEntry>
-    ensures value { option_map (λ e. e.now) result ≡ find (λ e. nat_eq e.operator operator) roll.now }
+    ensures value { let own = find (λ e. nat_eq e.operator operator) roll.now in
+        option_map (λ e. e.now) result ≡ own }
 {
     roll.iter().find(|member| member.operator == operator)
 }
@@ -80,7 +81,8 @@ fn check_change(figures: &Figures, lent: Tables<'_>, event: &Event) -> Result<()
     check_change_from(event, present, full)
 }
 
-// A commitment is by a newcomer that finds a place; a raise by an operator on the roll, above its present rate.
+// A commitment is by a newcomer that finds a place; a raise by an operator on the roll, above its
+// present rate.
 fn check_change_from(event: &Event, present: Option<u64>, full: bool) -> Result<(), Refusal>
     ensures answer { result ≡ passing (changing event.now.change present full event.now.rate) }
 {

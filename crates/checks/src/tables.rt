@@ -1,4 +1,4 @@
-// The check of a table: whether it has a place for each counted entry, and those entries are lawful.
+// The check of a table: whether it has a place for each counted entry, and those are lawful.
 ghost use Rattle.std.specs.Prelude.{◌≡◌, ℕ, Bool, nat_eq};
 ghost use Rattle.std.specs.List.{list_any};
 ghost use Rattle.checks.specs.Tables.{is_bad_table, has_number, repeats};
@@ -18,7 +18,8 @@ pub trait TableEntry {
         ensures value { result ≡ faulty self.now };
 }
 
-/// Whether a table is shorter than its count, or a counted entry is outside its limits or repeats a number.
+/// Whether a table is shorter than its count, or a counted entry is outside its limits or repeats a
+/// number.
 pub fn is_bad_table<E: TableEntry>(entries: &[E], counted: usize) -> bool
     ensures value { result ≡ is_bad_table E.numbered E.faulty counted entries.now }
 {

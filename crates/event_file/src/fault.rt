@@ -4,7 +4,7 @@ ghost use Rattle.event_file.specs.Places.{block_number, entry_number};
 
 use refusal::Refusal;
 
-// What is refused: the whole file, a whole block, or an entry of a block. Blocks and entries count from 1.
+/// What is refused: the whole file, a whole block, or an entry of a block. Blocks and entries count from 1.
 #[derive(Clone, Copy, PartialEq, Eq, Debug)]
 pub enum Place {
     File,
@@ -13,7 +13,7 @@ pub enum Place {
 }
 
 impl Place {
-    // The number of the block, or 0 for a whole file, as a statement prints it.
+    /// The number of the block, or 0 for a whole file, as a statement prints it.
     pub const fn block(self) -> usize
         ensures value { result ≡ block_number self }
     {
@@ -23,7 +23,7 @@ impl Place {
         }
     }
 
-    // The number of the entry in its block, or 0 for a whole file or block, as a statement prints it.
+    /// The number of the entry in its block, or 0 for a whole file or block, as a statement prints it.
     pub const fn entry(self) -> usize
         ensures value { result ≡ entry_number self }
     {
@@ -34,6 +34,7 @@ impl Place {
     }
 }
 
+/// A refusal, and where in a file it stands.
 #[derive(Clone, Copy, PartialEq, Eq, Debug)]
 pub struct Fault {
     pub refusal: Refusal,

@@ -6,7 +6,7 @@ ghost use Rattle.event_file.specs.Format.{printable};
 use crate::entry::all_print;
 use std::str::from_utf8;
 
-// Bytes as text if each of them prints, as those of every label that is read do; else no text.
+/// Bytes as text if each of them prints, as those of every label that is read do; else no text.
 pub fn printed(bytes: &[u8]) -> &str
     ensures value { result.now ≡ (if list_all printable bytes.now then bytes.now else []) }
 {

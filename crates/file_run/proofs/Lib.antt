@@ -1,4 +1,5 @@
 pub mod Leading
+pub mod AtOnce
 pub mod Blanks
 pub mod Noticing
 pub mod Running

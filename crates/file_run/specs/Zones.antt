@@ -1,22 +1,16 @@
 -- The zone of a run, with its tables, as a state of a life.
 --   state_of   the state that the books of a run stand for
 --   ComesTo    a call comes to a result: the zone that it leads to, or the refusal and the zone as it was
---   Billed     a levy was billed on these tables
-use Rattle.std.specs.Prelude.{◌≡◌, ℕ, List, Some, None, Ok, Err, Option, Result}
+use Rattle.std.specs.Prelude.{◌≡◌, Some, None, Ok, Err, Option, Result}
 use Rattle.refusal.specs.declared.Refusal.{Refusal}
 use Rattle.tariff.specs.Meaning.{Meaning}
 use Rattle.event_file.specs.declared.event.PlacedEvent.{PlacedEvent}
-use Rattle.book.specs.Zone.{State, Tables, Answer}
-use Rattle.book.specs.Answers.{billing}
+use Rattle.book.specs.Zone.{State, Tables}
 use Rattle.book.specs.Calls.{Call}
 use Rattle.book.specs.Passing.{tables}
-use Rattle.book.specs.Promises.{prepared, launched_on, levied_on}
+use Rattle.book.specs.Promises.{prepared, launched_on}
 use Rattle.book.specs.declared.launched.LaunchedZone.{LaunchedZone}
-use Rattle.book.specs.declared.levy.OpenLevy.{OpenLevy}
-use Rattle.book.specs.declared.lines.Line.{Line}
 use Rattle.book.specs.declared.outcome.Refused.{Refused}
-use Rattle.book.specs.declared.event.Event.{Event}
-use Rattle.book.specs.declared.figures.Figures.{Figures}
 use Rattle.file_run.specs.declared.books.Books.{Books}
 use Rattle.file_run.specs.declared.ledger.Ledger.{Ledger}
 use Rattle.file_run.specs.declared.notice.RefusedEvent.{RefusedEvent}
@@ -47,12 +41,3 @@ ComesTo led left m s call t (Err back) = Leads m s call (Some back.refusal) (lef
 -- A launched zone stays launched, whatever the call.
 abbrev pub StaysLaunched : Meaning → State → Call → Tables → Result LaunchedZone (Refused LaunchedZone) → Type 0
 StaysLaunched m s call t r = ComesTo launched_on launched_on m s call t r
-
--- A levy was opened by billing an event on these tables.
-pub record Billed (m : Meaning) (t : Tables) (levy : OpenLevy) : Type 0 where
-  pub figures : Figures
-  pub launch_date : ℕ
-  pub event : Event
-  pub places : ℕ
-  pub lines : List Line
-  pub answer : ◌≡◌ {A = Answer} (Ok (record { state = levied_on levy t; lines = lines })) (billing m figures launch_date t places event)

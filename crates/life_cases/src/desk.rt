@@ -4,12 +4,12 @@ use crate::ledger::{Outcome, STRIP_PLACES, Strips};
 use crate::life::Life;
 use crate::reading::instruction_in;
 use crate::shown::Shown;
+use at_once::settled::MOST_LINES;
 use book::lines::Line;
 use std::alloc::{AllocError, Global};
 use std::io;
-use zone_cases::at_once::MOST_LINES;
 
-// The life that is played, if one has begun, and the strips.
+/// The life that is played, if one has begun, and the strips.
 #[derive(Drop)]
 pub struct Desk {
     life: Option<Life>,

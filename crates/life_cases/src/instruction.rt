@@ -12,7 +12,7 @@ pub enum Choice {
     Dated,
 }
 
-// The places of the two tables and of the strip that calls are lent.
+/// The places of the two tables and of the strip that calls are lent.
 #[derive(Clone, Copy)]
 pub struct Places {
     pub roll: usize,
@@ -20,7 +20,7 @@ pub struct Places {
     pub strip: usize,
 }
 
-// What the calls below are given: one thing of their sheet, so many places, or a balance that is written into the roll.
+/// What the calls below are given: one thing of their sheet, so many places, or a balance that is written into the roll.
 #[derive(Clone, Copy)]
 pub enum Setting {
     Sheet(Choice),
@@ -35,7 +35,7 @@ pub enum Setting {
     Balance { operator: u32, micros: u64 },
 }
 
-// A call of a zone: a launch, a commitment or raise, or an opening or cabling by its entry.
+/// A call of a zone: a launch, a commitment or raise, or an opening or cabling by its entry.
 #[derive(Clone, Copy)]
 pub enum Call {
     Launch(u32),

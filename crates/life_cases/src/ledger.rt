@@ -1,5 +1,6 @@
 // A zone with its tables, and the strips that its calls are lent.
 use crate::instruction::{Call, Places};
+use at_once::settled::{MOST_LINES, Settled, bill_and_share_out};
 use book::entries::{RegisterEntry, RollEntry};
 use book::event::{Change, Event};
 use book::figures::Figures;
@@ -11,7 +12,6 @@ use refusal::Refusal;
 use std::mem;
 use tariff::kinds::Kind;
 use tariff::tariff::Tariff;
-use zone_cases::at_once::{MOST_LINES, Settled, shared};
 
 // One more than a zone can count.
 const ROLL_PLACES: usize = 17;
@@ -20,22 +20,22 @@ const REGISTER_PLACES: usize = 70;
 
 pub const STRIP_PLACES: usize = 1_200;
 
-// In preparation or launched. Each levy is shared out at once, so there is no third case.
+/// In preparation or launched. Each levy is shared out at once, so there is no third case.
 #[derive(Drop)]
 pub enum Zone {
     Prepared(PreparedZone),
     Launched(LaunchedZone),
 }
 
-// Where calls write: charges and contributions on one strip, credits on the other.
+/// Where calls write: charges and contributions on one strip, credits on the other.
 #[derive(Drop)]
 pub struct Strips {
     pub bill: Vec<Line>,
     pub credits: Vec<Line>,
 }
 
-// What a call comes to: the zone's state does not take it, it is refused, or it has written so many lines. A share-out may
-// have found too few places at first.
+/// What a call comes to: the zone's state does not take it, it is refused, or it has written so many lines. A share-out may
+/// have found too few places at first.
 #[derive(Clone, Copy)]
 pub enum Outcome {
     NotTaken,
@@ -189,7 +189,7 @@ impl Ledger {
         let bill = first(strips.bill.as_mut_slice(), self.places.strip);
         let credits = strips.credits.as_mut_slice();
         let share = self.share;
-        shared(zone, sheet, roll, register, bill, credits, share, event)
+        bill_and_share_out(zone, sheet, roll, register, bill, credits, share, event)
     }
 
     // An opening or cabling.

@@ -23,7 +23,7 @@ const TERMS: Terms = Terms {
     weights: [100; YEAR_INDICES],
 };
 
-// The sheet is made anew, of what was given, at each call that needs one.
+/// The sheet is made anew, of what was given, at each call that needs one.
 #[derive(Drop)]
 pub struct Life {
     pub ledger: Ledger,

@@ -5,7 +5,7 @@ use book::lines::Line;
 use refusal::Refusal;
 use std::fmt;
 
-// What stands on a line of its own.
+/// What stands on a line of its own.
 #[derive(Clone, Copy)]
 pub enum Shown<'a> {
     Written(&'a Line),

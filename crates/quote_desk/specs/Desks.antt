@@ -3,7 +3,7 @@
 --   priced        the price of what is asked for, on a sheet's meaning
 --   quotation_on  the same on the sheet chosen, made of the series read so far
 --   answer_to     what a line is answered; only orders and lines that cannot be read are
---   after         the state after a line
+--   state_after   the state after a line
 use Rattle.std.specs.Prelude.{ℕ, ◌&&◌, List, [], ◌∷◌, ◌++◌, replicate, Some, None, Ok, Err, vec_items, Option, Result}
 use Rattle.refusal.specs.declared.Refusal.{Refusal}
 use Rattle.series.specs.Limits.{index_fits}
@@ -42,8 +42,8 @@ pub record DeskState : Type 0 where
   pub records : List (Dated Prices)
 
 -- A desk as a plain value.
-abbrev pub shown : Desk → DeskState
-shown desk = record {
+abbrev pub desk_state : Desk → DeskState
+desk_state desk = record {
   choice = desk.choice;
   wages = vec_items desk.wages;
   consumer = vec_items desk.consumer;
@@ -51,8 +51,8 @@ shown desk = record {
 }
 
 -- Flat at first, with no row read.
-abbrev pub opening : DeskState
-opening = record { choice = choice.Flat; wages = []; consumer = []; records = [] }
+abbrev pub first_state : DeskState
+first_state = record { choice = choice.Flat; wages = []; consumer = []; records = [] }
 
 -- The network's first prices, in micro-euros.
 abbrev pub desk_prices : Prices
@@ -132,8 +132,8 @@ after_reading s (Ok (Some (asks.Record row))) = record s { records = s.records +
 after_reading s (Err reason) = s
 
 -- The state after a line.
-abbrev pub after : DeskState → List ℕ → DeskState
-after s bytes = after_reading s (request_in bytes)
+abbrev pub state_after : DeskState → List ℕ → DeskState
+state_after s bytes = after_reading s (request_in bytes)
 
 -- A line that adds a row to a series, which wants memory.
 abbrev pub AddsRow : Result (Option Request) Unreadable → Type 0

@@ -1,7 +1,7 @@
 // The desk that lines are brought to, and how it answers them.
 ghost use Rattle.std.specs.Prelude.{◌≡◌, true, is_some, IfOk, MatchResult, OnOk};
 ghost use Rattle.requests.specs.Requests.{request_in};
-ghost use Rattle.quote_desk.specs.Desks.{shown, opening, priced, on_flat, on_indexed, on_dated, quotation_on, answer_of, answer_to, after, AddsRow};
+ghost use Rattle.quote_desk.specs.Desks.{desk_state, first_state, priced, on_flat, on_indexed, on_dated, quotation_on, answer_of, answer_to, state_after, AddsRow};
 
 use crate::reply::Answer;
 use links::price::{fibre_price, link_price};
@@ -42,7 +42,7 @@ pub struct Desk {
 impl Desk {
     /// A desk with the flat sheet and no series read.
     pub fn new(heap: Global) -> Desk
-        ensures value { shown result ≡ opening }
+        ensures value { desk_state result ≡ first_state }
     {
         Desk {
             choice: Choice::Flat,
@@ -55,11 +55,11 @@ impl Desk {
     /// Reads a line and answers it, if it asks for a price or cannot be read. Such a line changes nothing. Only a row that
     /// finds no memory is turned down, and then nothing changes either.
     pub fn take(&mut self, bytes: &[u8]) -> Result<Option<Answer>, AllocError>
-        ensures answer { IfOk result (λ a. a ≡ answer_to (shown self.old) bytes.now) }
-        ensures after { OnOk result (shown self.new ≡ after (shown self.old) bytes.now) }
+        ensures answer { IfOk result (λ a. a ≡ answer_to (desk_state self.old) bytes.now) }
+        ensures after { OnOk result (desk_state self.new ≡ state_after (desk_state self.old) bytes.now) }
         ensures kept { MatchResult result
-            (λ a. is_some a ≡ true → shown self.new ≡ shown self.old)
-            (λ _. (shown self.new ≡ shown self.old) × AddsRow (request_in bytes.now)) }
+            (λ a. is_some a ≡ true → desk_state self.new ≡ desk_state self.old)
+            (λ _. (desk_state self.new ≡ desk_state self.old) × AddsRow (request_in bytes.now)) }
     {
         match request_in(bytes) {
             Ok(None) => Ok(None),
@@ -85,7 +85,7 @@ impl Desk {
     }
 
     fn answer(&self, enquiry: Enquiry) -> Answer
-        ensures value { result ≡ answer_of enquiry (quotation_on (shown self.now) enquiry) }
+        ensures value { result ≡ answer_of enquiry (quotation_on (desk_state self.now) enquiry) }
     {
         match self.quotation(&enquiry) {
             Ok(quotation) => Answer::Priced(enquiry, quotation),
@@ -96,7 +96,7 @@ impl Desk {
     // The price of an order on the sheet chosen, made of the series read so far. The sheets are three for good, and each is
     // filled with other rows: a match says so plainly.
     fn quotation(&self, enquiry: &Enquiry) -> Result<Quotation, Refusal>
-        ensures value { result ≡ quotation_on (shown self.now) enquiry.now }
+        ensures value { result ≡ quotation_on (desk_state self.now) enquiry.now }
     {
         match self.choice {
             Choice::Flat => on_flat(enquiry),

@@ -19,21 +19,21 @@ let_through (Some r) a x is = let no : ◌≡◌ {A = ℕ} 0 1 = cc in absurd (o
 pub later_places : {A B : Type 0} (place : List Check) (places : List (List Check)) (b : B) (a x : A) → unless (first place) a ≡ Ok x → in_turn places b ≡ in_turn (place ∷ places) b
 later_places {A = A} {B = B} place places b a x is = go (first place) is
   where
-    go : (o : Option Refusal) → unless o a ≡ Ok x → in_turn places b ≡ then_do (unless o (tt {0})) (λ _. in_turn places b)
+    go : (o : Option Refusal) → unless o a ≡ Ok x → in_turn places b ≡ then_do (unless o (tt {0})) (in_turn places b)
     go None h = refl
     go (Some r) h = let no : ◌≡◌ {A = ℕ} 0 1 = cc in absurd (omega arith)
 
 pub refused_here : {A B : Type 0} (place : List Check) (places : List (List Check)) (b : B) (a : A) (e : Refusal) → unless (first place) a ≡ Err e → Err e ≡ in_turn (place ∷ places) b
 refused_here {A = A} {B = B} place places b a e is = go (first place) is
   where
-    go : (o : Option Refusal) → unless o a ≡ Err e → Err e ≡ then_do (unless o (tt {0})) (λ _. in_turn places b)
+    go : (o : Option Refusal) → unless o a ≡ Err e → Err e ≡ then_do (unless o (tt {0})) (in_turn places b)
     go None h = let no : ◌≡◌ {A = ℕ} 0 1 = cc in absurd (omega arith)
     go (Some r) h = let same : r ≡ e = cc in ap Err (sym same)
 
 pub last_place : (place : List Check) → passing place ≡ in_turn (place ∷ []) (tt {0})
 last_place place = go (first place)
   where
-    go : (o : Option Refusal) → unless o (tt {0}) ≡ then_do (unless o (tt {0})) (λ _. Ok (tt {0}))
+    go : (o : Option Refusal) → unless o (tt {0}) ≡ then_do (unless o (tt {0})) (Ok (tt {0}))
     go None = refl
     go (Some r) = refl
 
@@ -43,7 +43,7 @@ still_refused [] a b e is = let no : ◌≡◌ {A = ℕ} 0 1 = cc in absurd (ome
 still_refused {A = A} {B = B} (place ∷ places) a b e is = go (first place) (still_refused places a b e) is
   where
     go : (o : Option Refusal) → (in_turn places a ≡ Err e → Err e ≡ in_turn places b) →
-        then_do (unless o (tt {0})) (λ _. in_turn places a) ≡ Err e → Err e ≡ then_do (unless o (tt {0})) (λ _. in_turn places b)
+        then_do (unless o (tt {0})) (in_turn places a) ≡ Err e → Err e ≡ then_do (unless o (tt {0})) (in_turn places b)
     go None rest h = rest h
     go (Some r) rest h = let same : r ≡ e = cc in ap Err (sym same)
 
@@ -52,6 +52,6 @@ carried [] a x f is = let same : a ≡ x = cc in ap (λ y. Ok (f y)) (sym same)
 carried (place ∷ places) a x f is = go (first place) (carried places a x f) is
   where
     go : (o : Option Refusal) → (in_turn places a ≡ Ok x → Ok (f x) ≡ in_turn places (f a)) →
-        then_do (unless o (tt {0})) (λ _. in_turn places a) ≡ Ok x → Ok (f x) ≡ then_do (unless o (tt {0})) (λ _. in_turn places (f a))
+        then_do (unless o (tt {0})) (in_turn places a) ≡ Ok x → Ok (f x) ≡ then_do (unless o (tt {0})) (in_turn places (f a))
     go None rest h = rest h
     go (Some r) rest h = let no : ◌≡◌ {A = ℕ} 0 1 = cc in absurd (omega arith)

@@ -1,4 +1,4 @@
--- Conditions in their order, each with the refusal that it gives: the first that holds is the answer.
+-- Conditions in their order, each with the refusal that it gives: the first that holds answers.
 use Rattle.std.specs.Prelude.{Bool, cond, List, [], ◌∷◌, Some, None, Ok, Err, Option, Result}
 use Rattle.refusal.specs.declared.Refusal.{Refusal}
 
@@ -25,11 +25,11 @@ abbrev pub passing : List Check → Result (Unit {0}) Refusal
 passing checks = unless (first checks) tt
 
 -- An answer, and what comes after it unless it is a refusal.
-abbrev pub then_do : {A B : Type 0} → Result A Refusal → (A → Result B Refusal) → Result B Refusal
-then_do (Ok a) next = next a
+abbrev pub then_do : {A B : Type 0} → Result A Refusal → Result B Refusal → Result B Refusal
+then_do (Ok a) next = next
 then_do (Err r) next = Err r
 
 -- An answer after the checks of each place, made in turn: the first check that holds refuses.
 abbrev pub in_turn : {A : Type 0} → List (List Check) → A → Result A Refusal
 in_turn [] a = Ok a
-in_turn (place ∷ places) a = then_do (passing place) (λ _. in_turn places a)
+in_turn (place ∷ places) a = then_do (passing place) (in_turn places a)

@@ -7,7 +7,7 @@ use Rattle.refusal.specs.Checks.{◌⇒◌, first, unless}
 use Rattle.refusal.specs.declared.Refusal.{Refusal}
 use Rattle.refusal.specs.declared.Refusal.TheVariants.{BadSheet}
 use Rattle.calendar.specs.Days.{within}
-use Rattle.tariff.specs.Bounds.{most_price, whole, most_weight}
+use Rattle.tariff.specs.Bounds.{most_price, whole, most_year_weight}
 use Rattle.tariff.specs.Most.{all_at_most}
 use Rattle.tariff.specs.declared.kinds.Kind.{Kind}
 use Rattle.tariff.specs.declared.kinds.Kind.TheVariants.{Covered, Connectable, ThirdParty}
@@ -26,7 +26,7 @@ abbrev pub prices_in_limits : Prices → Bool
 prices_in_limits p = price_fits p.covered && (price_fits p.connectable && price_fits p.third)
 
 abbrev pub terms_in_limits : Terms → Bool
-terms_in_limits t = nat_le t.contribution whole && all_at_most most_weight t.weights
+terms_in_limits t = nat_le t.contribution whole && all_at_most most_year_weight t.weights
 
 -- A sheet is made of what is within its limits, and of nothing else.
 abbrev pub making : Bool → Result (Unit {0}) Refusal

@@ -1,7 +1,7 @@
 -- What the tests on prices and terms tell of each price, the contribution and each weight.
 use Rattle.std.specs.Prelude.{◌≡◌, ℕ, ◌≤◌, true, nat_le, slice_index}
 use Rattle.std.proofs.lemmas.Bool.{and_parts, leb-true}
-use Rattle.tariff.specs.Bounds.{most_price, whole, most_weight}
+use Rattle.tariff.specs.Bounds.{most_price, whole, most_year_weight}
 use Rattle.tariff.specs.Meaning.{PriceLimits}
 use Rattle.tariff.specs.Most.{at_most}
 use Rattle.sheet_parts.specs.Given.{price_of, price_fits, prices_in_limits, terms_in_limits}
@@ -31,5 +31,5 @@ pub contribution_limit : (t : Terms) → terms_in_limits t ≡ true → t.contri
 contribution_limit t fits = leb-true t.contribution whole (and_parts _ _ fits).0
 
 pub weight_limit : (t : Terms) → terms_in_limits t ≡ true
-    → (index : ℕ) → slice_index t.weights index ≤ most_weight
-weight_limit t fits = at_most most_weight t.weights (and_parts _ _ fits).1
+    → (index : ℕ) → slice_index t.weights index ≤ most_year_weight
+weight_limit t fits = at_most most_year_weight t.weights (and_parts _ _ fits).1

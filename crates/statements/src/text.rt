@@ -9,13 +9,18 @@ use book::entries::RollEntry;
 use file_run::report::Report;
 use std::alloc::{AllocError, Global};
 
-// A statement: what was refused, the operators that the zone counts on this roll, and the totals.
+/// A statement: what was refused, the operators that the zone counts on this roll, and the totals.
 pub fn statement_text(
     heap: Global,
     report: &Report<'_>,
     roll: &[RollEntry],
 ) -> Result<String, AllocError>
-    ensures value { IfOk result (λ s. string_bytes s ≡ statement_text (map shown_notice report.now.notices.items) (take report.now.figures.operators roll.now) report.now.figures.totals (signed_text report.now.held.negative report.now.held.amount.micros)) }
+    ensures value { let r = report.now in
+        let notices = map shown_notice r.notices.items in
+        let members = take r.figures.operators roll.now in
+        let held = signed_text r.held.negative r.held.amount.micros in
+        let said = statement_text notices members r.figures.totals held in
+        IfOk result (λ s. string_bytes s ≡ said) }
 {
     let members = accounts(heap, roll, report.figures.operators)?;
     let notices = Lines {

@@ -26,9 +26,9 @@ abbrev pub last_index : ℕ
 last_index = 40
 
 -- What a tranche weighs at most.
-abbrev pub most_weight : ℕ
-most_weight = 200
+abbrev pub most_year_weight : ℕ
+most_year_weight = 200
 
 -- The largest numerator of an amount that is rounded.
-abbrev pub most_amount : ℕ
-most_amount = 9000000000000000000
+abbrev pub most_rounded : ℕ
+most_rounded = 9000000000000000000

@@ -4,7 +4,7 @@
 --   Lawful    the limits of all five answers
 use Rattle.std.specs.Prelude.{ℕ, ◌+◌, ◌*◌, ◌<◌, ◌≤◌, T, Some, None, Option}
 use Rattle.calendar.specs.Days.{is_date}
-use Rattle.tariff.specs.Bounds.{most_price, most_numerator, most_denominator, most_coefficient, whole, last_index, most_weight, most_amount}
+use Rattle.tariff.specs.Bounds.{most_price, most_numerator, most_denominator, most_coefficient, whole, last_index, most_year_weight, most_rounded}
 use Rattle.tariff.specs.declared.kinds.Kind.{Kind}
 use Rattle.tariff.specs.declared.kinds.Coefficient.{Coefficient}
 
@@ -45,6 +45,6 @@ pub record Lawful (m : Meaning) : Type 0 where
   pub coefficients : (installed receipt : ℕ) → T (is_date installed) → T (is_date receipt) →
       Answered CoefficientLimits (m.coefficient installed receipt)
   pub contributions : m.contribution ≤ whole
-  pub weights : (index : ℕ) → index ≤ last_index → m.weight index ≤ most_weight
-  pub near : (n d : ℕ) → n ≤ most_amount → 0 < d → d ≤ most_denominator →
+  pub weights : (index : ℕ) → index ≤ last_index → m.weight index ≤ most_year_weight
+  pub near : (n d : ℕ) → n ≤ most_rounded → 0 < d → d ≤ most_denominator →
       Near n d (m.rounded n d)

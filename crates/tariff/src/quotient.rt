@@ -1,13 +1,13 @@
 // A fraction that a sheet may be asked to round.
 ghost use Rattle.std.specs.Prelude.{◌<◌, ◌≤◌};
-ghost use Rattle.tariff.specs.Bounds.{most_amount, most_denominator};
+ghost use Rattle.tariff.specs.Bounds.{most_rounded, most_denominator};
 
 /// An amount of micro-euros as a numerator of up to 9×10^18 over a denominator of 1 to 240,000,000.
 #[derive(Clone, Copy, PartialEq, Eq, Debug)]
 pub struct Quotient {
     pub numerator: u64,
     pub denominator: u32,
-    ghost most: { numerator ≤ most_amount },
+    ghost most: { numerator ≤ most_rounded },
     ghost some: { 0 < denominator },
     ghost small: { denominator ≤ most_denominator },
 }

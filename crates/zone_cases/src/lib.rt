@@ -1,11 +1,9 @@
 // Lives of a zone by example: what calls answer and write, worked out by hand from the rules.
 #![tactic(auto)]
 
-pub mod at_once;
-
 #[cfg(test)]
 mod tests {
-    use crate::at_once::{MOST_LINES, shared};
+    use at_once::settled::{MOST_LINES, bill_and_share_out};
     use book::entries::{RegisterEntry, RollEntry};
     use book::event::{Change, Event};
     use book::launched::LaunchedZone;
@@ -81,7 +79,7 @@ mod tests {
         assert_eq!(rt; bill[1].total, 691_000_000);
         let zone = opened.zone;
         let raise = event(Change::Raise, 20130501, 2, 3);
-        let raised = shared(
+        let raised = bill_and_share_out(
             zone,
             &sheet,
             &mut roll,
@@ -95,7 +93,7 @@ mod tests {
         assert_eq!(rt; roll[0].balance, 155_475_000);
         assert_eq!(rt; roll[1].balance, 51_825_000);
         let commitment = event(Change::Commitment, 20150601, 3, 1);
-        let committed = shared(
+        let committed = bill_and_share_out(
             zone,
             &sheet,
             &mut roll,

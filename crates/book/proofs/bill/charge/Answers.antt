@@ -1,4 +1,5 @@
 use Rattle.std.proofs.Common.{◌*◌, [], arith}
+use Rattle.unit_prices.specs.Limits.{most_unit_contribution}
 use Rattle.book.specs.declared.entries.RollEntry.{RollEntry}
 use Rattle.book.proofs.Soundness.{sound_at, sized_of}
 use Rattle.unit_prices.proofs.Bounds.{price_fits}
@@ -13,7 +14,7 @@ line_of-requires g c =
     let r = (sound_at c.args.operators.items.now c.args.operators.sound c.loop-place.place blank c.loop-place-test.true).rate in
     let u = price_fits c.price-price.result c.rate_of.result c.price-price.ensures.most (omega (arith, r, c.rate_of.ensures.value)) in
     let s = (sized_of c.args.object.item.now c.args.object.sound).0 in
-    let f = line_fits (c.price-price.result * c.rate_of.result) c.args.object.item.now.dwellings 10000000000 u s in
+    let f = line_fits (c.price-price.result * c.rate_of.result) c.args.object.item.now.dwellings most_unit_contribution u s in
     record { most = omega (arith, f) }
 
 pub returns-clause-strip : goal.returns-clause-strip

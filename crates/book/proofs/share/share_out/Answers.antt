@@ -1,6 +1,7 @@
 use Rattle.std.proofs.Common.{◌*◌, ◌<◌, ◌≤◌, [], length, sym, ap, ◌∙◌, mul-le-mul, arith}
 use Rattle.std.proofs.lemmas.List.{length-map}
 use Rattle.tariff.specs.declared.kinds.Kind.TheVariants.{Covered}
+use Rattle.book.specs.Limits.{most_contribution}
 use Rattle.book.specs.Lists.{written}
 use Rattle.book.specs.Increases.{addition_in}
 use Rattle.book.specs.declared.entries.RollEntry.{RollEntry}
@@ -31,7 +32,7 @@ product_in : (g : given.Over) (c : Then-is_due g) → c.contribution-amount.resu
 product_in g c = mul-le-mul c.contribution-amount.ensures.most c.weight_to-weight.ensures.most
 
 part_in : (g : given.Over) (c : Then-is_due g) →
-    (g.T.Tariff.meaning c.args.sheet.now).rounded (c.contribution-amount.result * c.weight_to-weight.result) c.whole_weight-whole.result ≤ 100000000000000
+    (g.T.Tariff.meaning c.args.sheet.now).rounded (c.contribution-amount.result * c.weight_to-weight.result) c.whole_weight-whole.result ≤ most_contribution
 part_in g c =
     turn_part c.loop-item.invariant c.loop-member.invariant blank (omega arith) c.contribution-amount.result c.weight_to-weight.result c.weight_to-weight.ensures.value (sym c.if-is_due.ensures.value)
     (g.T.Tariff.lawful c.args.sheet.now) c.whole_weight-whole.ensures.most c.contribution-amount.ensures.most

@@ -1,6 +1,5 @@
 use Rattle.std.proofs.Common.{◌≡◌, ap, ◌∙◌, arith}
 use Rattle.std.specs.Result.{result_unwrap_or}
-use Rattle.unit_prices.specs.Prices.{unit_price}
 use Rattle.unit_prices.proofs.Bounds.{unit_price_most}
 use Rattle.unit_prices.proofs.Checked.{price_taken}
 use Rattle.book.proofs.Soundness.{sized_of}
@@ -13,6 +12,6 @@ returns g c =
     let o = c.args.self.item.now in
     let i = c.args.increase in
     let real = (sized_of o c.args.self.sound).1 in
-    let is = c.unwrap_or.ensures ∙ ap (λ r. result_unwrap_or r 0) c.unit_price.ensures.answer ∙ price_taken m law o.kind o.installed i.date i.tranches real c.requires.real i.few in
-    let most = unit_price_most m law o.kind o.installed i.date i.tranches real c.requires.real i.few in
+    let is = c.unwrap_or.ensures ∙ ap (λ r. result_unwrap_or r 0) c.unit_price.ensures.answer ∙ price_taken m law o.kind o.installed i.date i.tranches real i.real i.few in
+    let most = unit_price_most m law o.kind o.installed i.date i.tranches real i.real i.few in
     record { value = is; most = omega (arith, is, most) }

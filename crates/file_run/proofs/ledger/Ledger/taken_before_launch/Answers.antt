@@ -1,6 +1,5 @@
-use Rattle.std.proofs.Common.{ap, refl, arith}
+use Rattle.std.proofs.Common.{ap, refl}
 use Rattle.std.proofs.lemmas.Result.{err_from_is_err_and}
-use Rattle.std.proofs.lemmas.Grind.{common_steps}
 use Rattle.book.specs.Calls.{commitment, raise, launch}
 use Rattle.book.specs.Passing.{tables}
 use Rattle.book.specs.Promises.{prepared}
@@ -19,7 +18,7 @@ returns-in_err-after-in-Commitment c =
 
 pub returns-in_ok-after-in-Commitment : goal.returns-in_ok-after-in-Commitment
 returns-in_ok-after-in-Commitment c = record {
-  answer = λ m. let done = accepted m (prepared c.args.zone (tables_of c.args.self.now)) (commitment c.in-Commitment.date c.in-Commitment.operator c.in-Commitment.rate) _ (c.in_ok-after-in-Commitment.ensures.call m).given in grind (arith, common_steps, done);
+  answer = λ m. rw c.in-Commitment.is (accepted m (prepared c.args.zone (tables_of c.args.self.now)) (commitment c.in-Commitment.date c.in-Commitment.operator c.in-Commitment.rate) _ (c.in_ok-after-in-Commitment.ensures.call m).given);
 }
 
 pub returns-in_err-raised-in-Raise : goal.returns-in_err-raised-in-Raise
@@ -33,7 +32,7 @@ returns-in_err-raised-in-Raise c =
 
 pub returns-in_ok-raised-in-Raise : goal.returns-in_ok-raised-in-Raise
 returns-in_ok-raised-in-Raise c = record {
-  answer = λ m. let done = accepted m (prepared c.args.zone (tables_of c.args.self.now)) (raise c.in-Raise.date c.in-Raise.operator c.in-Raise.rate) _ (c.in_ok-raised-in-Raise.ensures.call m).given in grind (arith, common_steps, done);
+  answer = λ m. rw c.in-Raise.is (accepted m (prepared c.args.zone (tables_of c.args.self.now)) (raise c.in-Raise.date c.in-Raise.operator c.in-Raise.rate) _ (c.in_ok-raised-in-Raise.ensures.call m).given);
 }
 
 pub returns-in_err-launched-in-Launch : goal.returns-in_err-launched-in-Launch
@@ -47,5 +46,5 @@ returns-in_err-launched-in-Launch c =
 
 pub returns-in_ok-launched-in-Launch : goal.returns-in_ok-launched-in-Launch
 returns-in_ok-launched-in-Launch c = record {
-  answer = λ m. let done = accepted m (prepared c.args.zone (tables_of c.args.self.now)) (launch c.in-Launch.date) _ (c.in_ok-launched-in-Launch.ensures.call m).given in grind (arith, common_steps, done);
+  answer = λ m. rw c.in-Launch.is (accepted m (prepared c.args.zone (tables_of c.args.self.now)) (launch c.in-Launch.date) _ (c.in_ok-launched-in-Launch.ensures.call m).given);
 }
