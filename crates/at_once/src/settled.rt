@@ -19,13 +19,17 @@ use tariff::tariff::Tariff;
 /// Places enough for any share-out: one for each operator and each object that a zone can count together.
 pub const MOST_LINES: usize = MOST_OPERATORS * MOST_OBJECTS;
 
-/// What an accepted event leads to: the zone, how many lines its bill has, why a share-out on fewer places was refused
-/// first, if it was, and how many lines the share-out has.
+/// What an accepted event leads to whose levy was shared out at once.
 #[derive(Drop)]
+#[must_use]
 pub struct Settled {
+    /// The zone, with no levy open.
     pub zone: LaunchedZone,
+    /// The number of lines of the bill, from the start of its strip.
     pub billed: usize,
+    /// Why the share-out on the first places was refused, if it was.
     pub turned_down: Option<Refusal>,
+    /// The number of lines of the share-out, from the start of its strip.
     pub credited: usize,
 }
 

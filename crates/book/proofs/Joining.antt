@@ -1,7 +1,8 @@
 -- Tranches that pass the checks of the roll find a place on it.
-use Rattle.std.proofs.Common.{◌≡◌, ℕ, ◌≤◌, List, [], length, Ok, sym, ap, ◌∙◌, subst, arith}
+use Rattle.std.proofs.Common.{◌≡◌, ℕ, ◌≤◌, T, List, [], length, Ok, sym, ap, ◌∙◌, subst, arith}
 use Rattle.std.proofs.lemmas.List.{length-take-le, length-map}
 use Rattle.refusal.specs.Checks.{in_turn}
+use Rattle.calendar.specs.Days.{is_date}
 use Rattle.checks.specs.Numbers.{most_tranches}
 use Rattle.book.specs.Limits.{most_operators}
 use Rattle.book.specs.Lists.{written}
@@ -14,7 +15,7 @@ use Rattle.book.specs.declared.figures.Figures.{Figures}
 use Rattle.book.specs.declared.event.Event.{Event}
 use Rattle.book.specs.declared.event.Change.{Change}
 use Rattle.book.specs.declared.event.Change.TheVariants.{Commitment, Raise}
-use Rattle.book.proofs.Passing.{Clear, accepted_is}
+use Rattle.book.proofs.Passing.{Clear, accepted_is, real_of}
 use Rattle.book.proofs.Admitting.{Admitted}
 use Rattle.book.proofs.Passed.{RollPassed, newcomer_passed, raise_passed, subscription_passed}
 use Rattle.book.proofs.Entering.{members_entered, entered_length, entered_there}
@@ -60,6 +61,7 @@ module _ (f : Figures) (t : Tables) (v : Event) (index : ℕ) (long : f.operator
 -- what an accepted subscription tells
 pub record Subscribable (f : Figures) (t : Tables) (v : Event) : Type 0 where
   pub tables_in : Admitted f t
+  pub real : T (is_date v.date)
   pub rate : v.rate ≤ most_tranches
   pub few : (addition 0 v (counted_members f t)).tranches ≤ most_tranches
   pub fits : Fits f t v 0 tables_in.roll_long
@@ -70,6 +72,7 @@ subscribable f t v u few passes =
     let passed = subscription_passed f t v clear in
     record {
       tables_in = passed.tables;
+      real = real_of v.date passed.real;
       rate = passed.roll.rate_to;
       few = few_tranches f t v 0 passed.tables.roll_long passed.roll;
       fits = finds_place f t v 0 passed.tables.roll_long passed.roll few;

@@ -87,12 +87,13 @@ strip_passed places lines ok = let (room, end) = ok in ltb-false places lines ro
 -- each call
 pub record SubscriptionPassed (f : Figures) (t : Tables) (v : Event) : Type 0 where
   pub tables : Admitted f t
+  pub real : not (is_date v.date) ≡ false
   pub roll : RollPassed f t v
 
 pub subscription_passed : (f : Figures) (t : Tables) (v : Event) → AllClear (subscription_checks f t v) → SubscriptionPassed f t v
 subscription_passed f t v ok =
-    let (tables, (date, (roll, end))) = ok in
-    record { tables = tables_passed f t tables; roll = roll_passed f t v roll }
+    let (tables, ((real, in_order), (roll, end))) = ok in
+    record { tables = tables_passed f t tables; real = real; roll = roll_passed f t v roll }
 
 module _ (m : Meaning) (f : Figures) (launch_date : ℕ) (t : Tables) (places : ℕ) where
   pub record InstallationPassed (o : RegisterEntry) : Type 0 where

@@ -1,6 +1,5 @@
 // What is billed: the lines of a commitment or raise, and those of an object that is entered.
-ghost use Rattle.std.specs.Prelude.{◌≡◌, ◌*◌, ◌≤◌, T as Holds, length};
-ghost use Rattle.calendar.specs.Days.{is_date};
+ghost use Rattle.std.specs.Prelude.{◌≡◌, ◌*◌, ◌≤◌, length};
 ghost use Rattle.book.specs.Limits.{most_amount};
 ghost use Rattle.book.specs.Lists.{written};
 ghost use Rattle.book.specs.Lines.{line};
@@ -38,7 +37,6 @@ pub(crate) fn bill<T: Tariff>(
     objects: Objects<'_>,
     strip: &mut [Line],
 ) -> usize
-    requires real { Holds (is_date increase.date) }
     requires room { let m = T.meaning sheet.now in
         length (billing_of m (addition_in increase) objects.items.now) ≤ length strip.old }
     ensures number { let m = T.meaning sheet.now in

@@ -46,7 +46,8 @@ impl LaunchedZone {
 
     /// The day of the launch, yyyymmdd.
     pub const fn launch_date(&self) -> u32
-        ensures value { (t : spec.Tables) → Some result ≡ launch_day (launched_on self.now t).phase }
+        ensures value { (t : spec.Tables) →
+            Some result ≡ launch_day (launched_on self.now t).phase }
     {
         self.launch_date
     }

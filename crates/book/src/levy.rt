@@ -1,6 +1,6 @@
 // A zone whose last event is billed and not yet shared out, and the call that it takes: the share-out.
-ghost use Rattle.std.specs.Prelude.{◌≡◌, ◌≤◌, length, IfErr};
-ghost use Rattle.calendar.specs.Days.{index_of};
+ghost use Rattle.std.specs.Prelude.{◌≡◌, ◌≤◌, T as Holds, length, IfErr};
+ghost use Rattle.calendar.specs.Days.{is_date, index_of};
 ghost use Rattle.book.specs.Limits.{most_index};
 ghost use Rattle.book.specs.Calls.{share_out as call_share_out};
 ghost use Rattle.book.specs.Passing.{tables};
@@ -27,6 +27,7 @@ pub struct OpenLevy {
     pub(crate) zone: LaunchedZone,
     pub(crate) event: Event,
     ghost in_time: { index_of zone.launch_date event.date ≤ most_index },
+    ghost real: { Holds (is_date event.date) },
 }
 
 impl OpenLevy {

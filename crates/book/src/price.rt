@@ -1,6 +1,5 @@
 // What an object costs, and what it contributes.
-ghost use Rattle.std.specs.Prelude.{◌≡◌, ◌≤◌, T as Holds};
-ghost use Rattle.calendar.specs.Days.{is_date};
+ghost use Rattle.std.specs.Prelude.{◌≡◌, ◌≤◌};
 ghost use Rattle.tariff.specs.Bounds.{most_price};
 ghost use Rattle.unit_prices.specs.Limits.{most_unit_price, most_unit_contribution};
 ghost use Rattle.unit_prices.specs.Prices.{price_at, unit_price, unit_contribution};
@@ -10,9 +9,8 @@ ghost use Rattle.book.specs.Sharing.{object_contribution};
 
 use crate::increase::Increase;
 use crate::sound_entries::Object;
-use tariff::quotient::Quotient;
-use tariff::tariff::{Tariff, WHOLE};
-use unit_prices::price::unit_price;
+use tariff::tariff::Tariff;
+use unit_prices::price::{unit_contribution, unit_price};
 
 impl<'a> Object<'a> {
     // The price per tranche and dwelling.
@@ -28,10 +26,9 @@ impl<'a> Object<'a> {
         )
     }
 
-    // What a dwelling costs for the tranches of an increase, on its day; 0 where a question is refused, which no accepted
-    // call meets.
+    // What a dwelling costs for the tranches of an increase, on its day; 0 where the question is refused, as by the
+    // definition, which no accepted call meets.
     pub(crate) fn unit_price<T: Tariff>(self, sheet: &T, increase: Increase) -> u64
-        requires real { Holds (is_date increase.date) }
         ensures value { let o = self.entry.item.now in
             let m = T.meaning sheet.now in
             result ≡ unit_price m o.kind o.installed increase.date increase.tranches }
@@ -47,21 +44,21 @@ impl<'a> Object<'a> {
         .unwrap_or(0)
     }
 
-    // What of it goes to the earlier operators.
+    // What of it goes to the earlier operators; 0 where the question is refused, likewise.
     pub(crate) fn unit_contribution<T: Tariff>(self, sheet: &T, increase: Increase) -> u64
         ensures value { let o = self.entry.item.now in
             let m = T.meaning sheet.now in
             result ≡ unit_contribution m o.kind o.installed increase.date increase.tranches }
         ensures most { result ≤ most_unit_contribution }
     {
-        if self.item.installed >= increase.date {
-            return 0;
-        }
-        let price = self.price(sheet) * u64::from(increase.tranches);
-        sheet.rounded(Quotient {
-            numerator: price * u64::from(sheet.contribution()),
-            denominator: WHOLE,
-        })
+        unit_contribution(
+            sheet,
+            self.item.kind,
+            self.item.installed,
+            increase.date,
+            increase.tranches,
+        )
+        .unwrap_or(0)
     }
 
     // What the object contributes: its unit contribution times its dwellings.

@@ -147,7 +147,8 @@ pub(crate) fn settle<T: Tariff>(
         length (entered_roll a (take counted roll.old)) ≤ length roll.old }
     requires room { let m = T.meaning sheet.now in
         let a = addition_in increase in
-        length (credits m a objects.items.now (members_of (take counted roll.old))) ≤ length strip.old }
+        let members = members_of (take counted roll.old) in
+        length (credits m a objects.items.now members) ≤ length strip.old }
     ensures moved { let m = T.meaning sheet.now in
         let a = addition_in increase in
         result.0 ≡ moved_by m a objects.entry.items.now (members_of (take counted roll.old)) }

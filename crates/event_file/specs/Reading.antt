@@ -80,10 +80,16 @@ pub record OpenedAt (bs : List ℕ) (reader : Unread) : Type 0 where
   pub left : reader.left ≡ file_read bs
   pub few : length reader.left ≤ 2176
 
--- A file is opened, or refused as a whole for its length: the fault is then all that it gives.
+-- A file of a length that no file has is refused as a whole: its fault is all that it gives.
+pub record RefusedWhole (bs : List ℕ) (fault : Fault) : Type 0 where
+  pub lawless : file_blocks (length bs) ≡ Err fault.refusal
+  pub whole : fault.place ≡ place.File
+  pub told : file_read bs ≡ Err fault ∷ []
+
+-- A file is opened, or refused as a whole for its length.
 abbrev pub Opened : List ℕ → Result Unread Fault → Type 0
 Opened bs (Ok reader) = OpenedAt bs reader
-Opened bs (Err fault) = file_read bs ≡ Err fault ∷ []
+Opened bs (Err fault) = RefusedWhole bs fault
 
 -- The program's entry, with its place, as a plain value.
 abbrev pub shown_entry : Result Entry Fault → Item

@@ -5,11 +5,13 @@ ghost use Rattle.event_file.specs.Laws.{ChangeIsFound};
 
 use refusal::Refusal;
 
+/// The bytes of a block: its entries and its check.
 pub const BLOCK_BYTES: usize = 512;
 
+/// The entries of a block.
 pub const BLOCK_ENTRIES: usize = 17;
 
-/// The longest file: 128 blocks.
+/// The bytes of the longest file: 128 blocks.
 pub const MOST_BYTES: usize = 65536;
 
 // The bytes of a block that its check covers.
@@ -18,7 +20,7 @@ const CHECKED_BYTES: usize = 510;
 // The largest prime below 65,536.
 const MODULUS: u32 = 65521;
 
-/// How many blocks a file of a length has.
+/// How many blocks a file of a length in bytes has. It is refused (19) if it is no whole number of blocks or too long.
 pub const fn blocks_in(length: usize) -> Result<usize, Refusal>
     ensures answer { result ≡ file_blocks length }
 {
@@ -57,7 +59,7 @@ fn passes(block: &[u8]) -> bool
     block.len() == BLOCK_BYTES && check_of(&block[0..CHECKED_BYTES]) == written_check(block)
 }
 
-/// A block is taken only if it passes its check.
+/// Whether a block is whole and carries the check that its bytes call for; else it is refused (20).
 pub fn check_block(block: &[u8]) -> Result<(), Refusal>
     ensures answer { result ≡ block_check block.now }
     ensures change { ChangeIsFound }

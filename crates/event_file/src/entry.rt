@@ -8,6 +8,7 @@ ghost use Rattle.event_file.specs.Laws.{OnlyItsBytes, ReadsBack};
 use crate::event::FileEvent;
 use refusal::Refusal;
 
+/// The bytes of an entry.
 pub const ENTRY_BYTES: usize = 30;
 
 const LABEL_BYTES: usize = 16;
@@ -100,7 +101,9 @@ struct Fields<'a> {
 impl<'a> Fields<'a> {
     // The parts of an entry, from its letter and the bytes after it, if these are enough for all but the label.
     fn split(letter: Letter, rest: &'a [u8]) -> Option<Fields<'a>>
-        ensures answer { MatchOption result (length rest.now < 13) (λ f. (13 ≤ length rest.now) × FieldsOf (letter_byte letter ∷ rest.now) f) }
+        ensures answer { let entry = letter_byte letter ∷ rest.now in
+            MatchOption result (length rest.now < 13)
+            (λ f. (13 ≤ length rest.now) × FieldsOf entry f) }
     {
         let [
             d0,
@@ -133,21 +136,25 @@ impl<'a> Fields<'a> {
 
     // Whether a launch says more than its date.
     fn filled_in_vain(self) -> bool
-        ensures value { result ≡ filled_in_vain (letter_byte self.entry.letter) self.entry.number self.entry.amount }
+        ensures value { let f = self.entry in
+            result ≡ filled_in_vain (letter_byte f.letter) f.number f.amount }
     {
         self.letter == Letter::Launch && (self.number != 0 || self.amount != 0)
     }
 
     // Whether the form, a number or the label is wrong.
     fn bad(self) -> bool
-        ensures value { result ≡ bad_fields (letter_byte self.entry.letter) self.entry.number self.entry.amount self.entry.form self.entry.label.now }
+        ensures value { let f = self.entry in
+            result ≡ bad_fields (letter_byte f.letter) f.number f.amount f.form f.label.now }
     {
         self.form > self.letter.most_form() || self.filled_in_vain() || !label_stands(self.label)
     }
 
     // The event that the fields mean.
     fn event(self) -> FileEvent<'a>
-        ensures value { shown_event result ≡ event_of (letter_byte self.entry.letter) self.entry.date self.entry.number self.entry.amount self.entry.form self.entry.label.now }
+        ensures value { let f = self.entry in
+            shown_event result ≡
+            event_of (letter_byte f.letter) f.date f.number f.amount f.form f.label.now }
     {
         let (date, label) = (self.date, self.label);
         match self.letter {
@@ -183,7 +190,10 @@ impl<'a> Fields<'a> {
 
 // The event of a letter and the bytes after it, if it may stand where it does.
 fn event_in(letter: Letter, rest: &[u8], after_blank: bool) -> Result<FileEvent<'_>, Refusal>
-    ensures answer { MatchResult result (λ e. (event_refusal after_blank (letter_byte letter ∷ rest.now) ≡ None) × (shown_event e ≡ event_in (letter_byte letter ∷ rest.now))) (λ x. event_refusal after_blank (letter_byte letter ∷ rest.now) ≡ Some x) }
+    ensures answer { let entry = letter_byte letter ∷ rest.now in
+        let refused = event_refusal after_blank entry in
+        MatchResult result (λ e. (refused ≡ None) × (shown_event e ≡ event_in entry))
+        (λ x. refused ≡ Some x) }
 {
     if after_blank {
         return Err(Refusal::BlankRuleBroken);
@@ -197,7 +207,8 @@ fn event_in(letter: Letter, rest: &[u8], after_blank: bool) -> Result<FileEvent<
     Ok(fields.event())
 }
 
-/// What an entry tells, an event or a blank, where a blank stands before it in its block or not.
+/// What an entry tells, an event or a blank, where a blank stands before it in its block or not. It is refused for its
+/// letter (21), for what breaks the rule of blanks (22), or for its form, its numbers or its label (23).
 pub fn read_entry(bytes: &[u8], after_blank: bool) -> Result<Option<FileEvent<'_>>, Refusal>
     ensures answer { shown_answer result ≡ told after_blank bytes.now }
     ensures back { ReadsBack }

@@ -4,7 +4,7 @@ ghost use Rattle.event_file.specs.Format.{label_of};
 ghost use Rattle.event_file.specs.Entries.{shown_event};
 
 /// What an event of a file tells: dates as YYYYMMDD, rates in tranches, labels of sixteen bytes.
-#[derive(Clone, Copy)]
+#[derive(Clone, Copy, PartialEq, Eq, Debug)]
 pub enum FileEvent<'a> {
     /// An operator joins at a rate.
     Commitment {
@@ -58,7 +58,7 @@ impl<'a> FileEvent<'a> {
 }
 
 /// An entry with its block and its place in the block, both from 1. A blank tells of no event.
-#[derive(Clone, Copy)]
+#[derive(Clone, Copy, PartialEq, Eq, Debug)]
 pub struct Entry<'a> {
     pub block: usize,
     pub entry: usize,
@@ -66,7 +66,7 @@ pub struct Entry<'a> {
 }
 
 /// An event with the block and the place in the block of the entry that tells it, both from 1.
-#[derive(Clone, Copy)]
+#[derive(Clone, Copy, PartialEq, Eq, Debug)]
 pub struct PlacedEvent<'a> {
     pub block: usize,
     pub entry: usize,

@@ -34,6 +34,7 @@ impl Place {
     }
 }
 
+/// A refusal, and where in a file it stands.
 #[derive(Clone, Copy, PartialEq, Eq, Debug)]
 pub struct Fault {
     pub refusal: Refusal,

@@ -11,7 +11,8 @@ const ROOM: u64 = MOST_BYTES as u64 + 1;
 
 /// All that an input gives, or as much of it as shows that it is too long.
 pub fn file_bytes<R: Read + Drop>(heap: Global, input: R) -> io::Result<Vec<u8>>
-    ensures bytes { IfOk result (λ v. IfSome (R.remaining input) (λ given. v.items ≡ take 65537 given)) }
+    ensures bytes { IfOk result (λ v.
+        IfSome (R.remaining input) (λ given. v.items ≡ take 65537 given)) }
 {
     let mut bytes = Vec::new(heap);
     input.take(ROOM).read_to_end(&mut bytes)?;

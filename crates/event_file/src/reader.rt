@@ -74,7 +74,8 @@ fn check_at(block: &[u8], place: usize) -> Result<(), Refusal>
 // What an entry of a block tells, with its place in the file.
 fn entry_in(block: &[u8; BLOCK_BYTES], number: usize, place: usize) -> Result<Entry<'_>, Fault>
     requires { (place < 17) × (number < 2 ^ 60) }
-    ensures answer { shown_entry result ≡ placed (number + 1) (place + 1) (entry_told block.now place) }
+    ensures answer { let told = entry_told block.now place in
+        shown_entry result ≡ placed (number + 1) (place + 1) told }
 {
     let (block_number, entry) = (number + 1, place + 1);
     told_in(block, place)

@@ -1,24 +1,24 @@
 // Lists an event file from standard input, so that people can look into it.
 #![tactic(auto)]
 
-mod text;
+mod listing;
 
 use event_file::input::file_bytes;
 use event_file::reader::Reader;
+use listing::ListingLine;
 use std::io;
-use text::Line;
 
 // The lines of a file, to its end or the block that fails its check.
 fn list(rt: &HostRuntime, bytes: &[u8]) -> io::Result<()> {
     let reader = match Reader::open(bytes) {
         Ok(reader) => reader,
         Err(fault) => {
-            let line = Line(Err(fault));
+            let line = ListingLine(Err(fault));
             return println!(rt; "{line}");
         }
     };
     for entry in reader {
-        let line = Line(entry);
+        let line = ListingLine(entry);
         println!(rt; "{line}")?;
     }
     Ok(())

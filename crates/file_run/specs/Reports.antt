@@ -4,7 +4,9 @@
 --   steps_told   the steps that the events of a file ask for
 --   ending       the state of zone and tables after a file
 --   RunsAsLife   the run of a file is a life, and the accounts hold at its end
-use Rattle.std.specs.Prelude.{ℕ, ◌+◌, cond, List, [], ◌∷◌, ◌++◌, Some, None, Option, ◌==◌, flat_map}
+use Rattle.std.specs.Prelude.{◌≡◌, ℕ, ◌+◌, cond, List, [], ◌∷◌, ◌++◌, Some, None, Option, ◌==◌, flat_map}
+use Rattle.money.specs.Signs.{apart, below_zero}
+use Rattle.money.specs.declared.signed.SignedMoney.{SignedMoney}
 use Rattle.refusal.specs.declared.Refusal.{Refusal}
 use Rattle.tariff.specs.Meaning.{Meaning}
 use Rattle.event_file.specs.Format.{Shown, label_of}
@@ -74,6 +76,11 @@ file_notices m t bs = notices m (empty_state t) (file_tells bs)
 -- What the zone holds back or has overpaid is contributed less credited less unshared.
 abbrev pub paid_out : State → ℕ
 paid_out s = s.figures.totals.credited + s.figures.totals.unshared
+
+-- What is held, as a number with its sign.
+pub record IsHeld (held : SignedMoney) (contributed paid : ℕ) : Type 0 where
+  pub sign : held.negative ≡ below_zero contributed paid
+  pub amount : held.amount.micros ≡ apart contributed paid
 
 -- No levy is open.
 abbrev pub Closed : Phase → Type 0

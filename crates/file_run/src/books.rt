@@ -63,7 +63,8 @@ impl Books {
         placed: PlacedEvent<'a>,
     ) -> Result<(), RefusedEvent<'a>>
         ensures answer { let call = call_of (shown_event placed.entry.event) in
-            AnsweredAs placed.entry (refusal_to (T.meaning sheet.now) (state_of self.old) call) result }
+            let refusal = refusal_to (T.meaning sheet.now) (state_of self.old) call in
+            AnsweredAs placed.entry refusal result }
         ensures after { let call = call_of (shown_event placed.entry.event) in
             state_of self.new ≡ lived (T.meaning sheet.now) (state_of self.old) (steps_for call) }
     {

@@ -8,7 +8,8 @@ use event_file::label::printed;
 
 // The text of a label without its end blanks, lent by the block it stands in.
 pub(crate) fn label_text(label: &[u8]) -> &str
-    ensures value { list_all printable label.now ≡ true → result.now ≡ without_end_blanks label.now }
+    ensures value { list_all printable label.now ≡ true →
+        result.now ≡ without_end_blanks label.now }
 {
     printed(label).trim_end_matches(' ')
 }

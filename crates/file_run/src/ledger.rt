@@ -3,14 +3,17 @@ ghost use Rattle.std.specs.Prelude.{◌≡◌};
 ghost use Rattle.refusal.specs.declared.Refusal.TheVariants.{OutOfTurn};
 ghost use Rattle.tariff.specs.Meaning.{Meaning};
 ghost use Rattle.event_file.specs.Entries.{shown_event};
-ghost use Rattle.book.specs.Calls.{opening as call_opening, cabling as call_cabling};
+ghost use Rattle.book.specs.Calls.{commitment as call_commitment, raise as call_raise, opening as call_opening, cabling as call_cabling};
 ghost use Rattle.book.specs.Promises.{prepared, launched_on};
+ghost use Rattle.at_once.specs.Steps.{call_for};
 ghost use Rattle.file_run.specs.Taking.{call_of};
 ghost use Rattle.file_run.specs.Zones.{state_in, tables_of, ComesTo, StaysLaunched};
 
 use crate::report::{REGISTER_PLACES, ROLL_PLACES};
 use crate::zone_state::ZoneState;
+use at_once::settled::bill_and_share_out;
 use book::entries::{RegisterEntry, RollEntry};
+use book::event::{Change, Event};
 use book::launched::LaunchedZone;
 use book::lines::Line;
 use book::outcome::Refused;
@@ -52,7 +55,10 @@ impl Ledger {
         sheet: &T,
         event: FileEvent<'_>,
     ) -> Result<ZoneState, Refused<ZoneState>>
-        ensures answer { ComesTo state_in state_in (T.meaning sheet.now) (state_in zone (tables_of self.old)) (call_of (shown_event event.entry)) (tables_of self.new) result }
+        ensures answer { let before = state_in zone (tables_of self.old) in
+            let call = call_of (shown_event event.entry) in
+            let after = tables_of self.new in
+            ComesTo state_in state_in (T.meaning sheet.now) before call after result }
     {
         match zone {
             ZoneState::Prepared(prepared) => self.taken_before_launch(prepared, event).map_err(
@@ -77,7 +83,9 @@ impl Ledger {
         zone: PreparedZone,
         event: FileEvent<'_>,
     ) -> Result<ZoneState, Refused<PreparedZone>>
-        ensures answer { (m : Meaning) → ComesTo state_in prepared m (prepared zone (tables_of self.old)) (call_of (shown_event event.entry)) (tables_of self.new) result }
+        ensures answer { let before = prepared zone (tables_of self.old) in
+            let call = call_of (shown_event event.entry) in
+            (m : Meaning) → ComesTo state_in prepared m before call (tables_of self.new) result }
     {
         let (roll, register) = (&mut self.roll, &self.register);
         match event {
@@ -114,7 +122,9 @@ impl Ledger {
         sheet: &T,
         event: FileEvent<'_>,
     ) -> Result<LaunchedZone, Refused<LaunchedZone>>
-        ensures answer { StaysLaunched (T.meaning sheet.now) (launched_on zone (tables_of self.old)) (call_of (shown_event event.entry)) (tables_of self.new) result }
+        ensures answer { let before = launched_on zone (tables_of self.old) in
+            let call = call_of (shown_event event.entry) in
+            StaysLaunched (T.meaning sheet.now) before call (tables_of self.new) result }
     {
         match event {
             FileEvent::Commitment {
@@ -145,12 +155,77 @@ impl Ledger {
             FileEvent::Launch { .. } => Err(out_of_turn(zone)),
         }
     }
-}
 
-// The two differ in the call alone: passed in as a closure, it would take as many lines as each has. A cabling is by a third
-// party or not, a yes or no as in the call.
-impl Ledger {
-    pub(crate) fn opening<T: Tariff>(
+    fn commitment<T: Tariff>(
+        &mut self,
+        zone: LaunchedZone,
+        sheet: &T,
+        date: u32,
+        operator: u32,
+        rate: u32,
+    ) -> Result<LaunchedZone, Refused<LaunchedZone>>
+        ensures answer { let before = launched_on zone (tables_of self.old) in
+            let call = call_commitment date operator rate in
+            StaysLaunched (T.meaning sheet.now) before call (tables_of self.new) result }
+    {
+        let event = Event {
+            change: Change::Commitment,
+            date,
+            operator,
+            rate,
+        };
+        self.settled(zone, sheet, event)
+    }
+
+    fn raise<T: Tariff>(
+        &mut self,
+        zone: LaunchedZone,
+        sheet: &T,
+        date: u32,
+        operator: u32,
+        rate: u32,
+    ) -> Result<LaunchedZone, Refused<LaunchedZone>>
+        ensures answer { let before = launched_on zone (tables_of self.old) in
+            let call = call_raise date operator rate in
+            StaysLaunched (T.meaning sheet.now) before call (tables_of self.new) result }
+    {
+        let event = Event {
+            change: Change::Raise,
+            date,
+            operator,
+            rate,
+        };
+        self.settled(zone, sheet, event)
+    }
+
+    // With at most 16 operators and 64 objects each line of a share-out has one of 1,024 places.
+    fn settled<T: Tariff>(
+        &mut self,
+        zone: LaunchedZone,
+        sheet: &T,
+        event: Event,
+    ) -> Result<LaunchedZone, Refused<LaunchedZone>>
+        ensures answer { let s = launched_on zone (tables_of self.old) in
+            StaysLaunched (T.meaning sheet.now) s (call_for event) (tables_of self.new) result }
+    {
+        let (roll, register) = (&mut self.roll, &self.register);
+        let (bill, credits) = (&mut self.bill, &mut self.credits);
+        let done = bill_and_share_out(
+            zone,
+            sheet,
+            roll,
+            register,
+            bill,
+            credits,
+            STRIP_PLACES,
+            event,
+        )?;
+        Ok(done.zone)
+    }
+
+    // An opening and a cabling differ in the call alone: passed in as a closure, it would take as many lines as each has. A
+    // cabling is by a third party or not, a yes or no as in the call.
+    fn opening<T: Tariff>(
         &mut self,
         zone: LaunchedZone,
         sheet: &T,
@@ -158,14 +233,16 @@ impl Ledger {
         object: u32,
         dwellings: u32,
     ) -> Result<LaunchedZone, Refused<LaunchedZone>>
-        ensures answer { StaysLaunched (T.meaning sheet.now) (launched_on zone (tables_of self.old)) (call_opening date object dwellings) (tables_of self.new) result }
+        ensures answer { let before = launched_on zone (tables_of self.old) in
+            let call = call_opening date object dwellings in
+            StaysLaunched (T.meaning sheet.now) before call (tables_of self.new) result }
     {
         let (roll, register, bill) = (&self.roll, &mut self.register, &mut self.bill);
         let done = zone.opening(sheet, roll, register, bill, date, object, dwellings)?;
         Ok(done.zone)
     }
 
-    pub(crate) fn cabling<T: Tariff>(
+    fn cabling<T: Tariff>(
         &mut self,
         zone: LaunchedZone,
         sheet: &T,
@@ -174,7 +251,9 @@ impl Ledger {
         third_party: bool,
         dwellings: u32,
     ) -> Result<LaunchedZone, Refused<LaunchedZone>>
-        ensures answer { StaysLaunched (T.meaning sheet.now) (launched_on zone (tables_of self.old)) (call_cabling date object third_party dwellings) (tables_of self.new) result }
+        ensures answer { let before = launched_on zone (tables_of self.old) in
+            let call = call_cabling date object third_party dwellings in
+            StaysLaunched (T.meaning sheet.now) before call (tables_of self.new) result }
     {
         let (roll, register, bill) = (&self.roll, &mut self.register, &mut self.bill);
         let done = zone.cabling(

@@ -7,5 +7,4 @@ mod ledger;
 pub mod notice;
 mod reading;
 pub mod report;
-mod subscribed;
 mod zone_state;

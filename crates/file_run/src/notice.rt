@@ -17,9 +17,11 @@ pub(crate) struct RefusedEvent<'a> {
 
 /// The refusal with its block and entry, and the text of the entry's label. What is refused before its entry is read
 /// has an empty text and no option of one, since a label of blanks alone shows the same.
-#[derive(Clone, Copy)]
+#[derive(Clone, Copy, PartialEq, Eq, Debug)]
 pub struct Notice<'a> {
+    /// The refusal and its place.
     pub fault: Fault,
+    /// The text of the label without its end blanks.
     pub label: &'a str,
 }
 

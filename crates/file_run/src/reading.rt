@@ -24,8 +24,12 @@ pub(crate) fn read_file<'a, T: Tariff>(
     books: &mut Books,
     sheet: &T,
 ) -> Result<Vec<Notice<'a>>, AllocError>
-    ensures notices { IfOk result (λ x. map shown_notice x.items ≡ notices_of (T.meaning sheet.now) (state_of books.old) (file_tells bytes.now)) }
-    ensures after { OnOk result (state_of books.new ≡ lived (T.meaning sheet.now) (state_of books.old) (steps_told (file_tells bytes.now))) }
+    ensures notices { let told = file_tells bytes.now in
+        let said = notices_of (T.meaning sheet.now) (state_of books.old) told in
+        IfOk result (λ x. map shown_notice x.items ≡ said) }
+    ensures after { let steps = steps_told (file_tells bytes.now) in
+        let after = lived (T.meaning sheet.now) (state_of books.old) steps in
+        OnOk result (state_of books.new ≡ after) }
 {
     let mut notices = Vec::with_capacity(heap, MOST_NOTICES)?;
     let mut reader = match Reader::open(bytes) {

@@ -1,8 +1,7 @@
 // An event file run through the book, from an empty zone to its report.
 ghost use Rattle.std.specs.Prelude.{◌≡◌, IfOk, OnErr, OnOk, map};
-ghost use Rattle.money.specs.Signs.{apart, below_zero};
 ghost use Rattle.book.specs.Passing.{tables};
-ghost use Rattle.file_run.specs.Reports.{ending, file_notices, paid_out, Closed, RunsAsLife};
+ghost use Rattle.file_run.specs.Reports.{ending, file_notices, paid_out, Closed, IsHeld, RunsAsLife};
 ghost use Rattle.file_run.specs.Steps.{shown_notice};
 
 use crate::books::Books;
@@ -40,11 +39,21 @@ pub fn run_file<'a, T: Tariff>(
     roll: &mut [RollEntry; ROLL_PLACES],
     register: &mut [RegisterEntry; REGISTER_PLACES],
 ) -> Result<Report<'a>, AllocError>
-    ensures notices { IfOk result (λ x. map shown_notice x.notices.items ≡ file_notices (T.meaning sheet.now) (tables roll.old register.old) bytes.now) }
-    ensures figures { IfOk result (λ x. x.figures ≡ (ending (T.meaning sheet.now) (tables roll.old register.old) bytes.now).figures) }
-    ensures tables { OnOk result (tables roll.new register.new ≡ (ending (T.meaning sheet.now) (tables roll.old register.old) bytes.now).tables) }
-    ensures held { IfOk result (λ x. (x.held.negative ≡ below_zero x.figures.totals.contributed (paid_out (ending (T.meaning sheet.now) (tables roll.old register.old) bytes.now))) × (x.held.amount.micros ≡ apart x.figures.totals.contributed (paid_out (ending (T.meaning sheet.now) (tables roll.old register.old) bytes.now)))) }
-    ensures closed { OnOk result (Closed (ending (T.meaning sheet.now) (tables roll.old register.old) bytes.now).phase) }
+    ensures notices { let t = tables roll.old register.old in
+        let said = file_notices (T.meaning sheet.now) t bytes.now in
+        IfOk result (λ x. map shown_notice x.notices.items ≡ said) }
+    ensures figures { let t = tables roll.old register.old in
+        let end = ending (T.meaning sheet.now) t bytes.now in
+        IfOk result (λ x. x.figures ≡ end.figures) }
+    ensures tables { let t = tables roll.old register.old in
+        let end = ending (T.meaning sheet.now) t bytes.now in
+        OnOk result (tables roll.new register.new ≡ end.tables) }
+    ensures held { let t = tables roll.old register.old in
+        let end = ending (T.meaning sheet.now) t bytes.now in
+        IfOk result (λ x. IsHeld x.held x.figures.totals.contributed (paid_out end)) }
+    ensures closed { let t = tables roll.old register.old in
+        let end = ending (T.meaning sheet.now) t bytes.now in
+        OnOk result (Closed end.phase) }
     ensures kept { OnErr result ((roll.new ≡ roll.old) × (register.new ≡ register.old)) }
     ensures life { RunsAsLife (T.meaning sheet.now) (tables roll.old register.old) bytes.now }
 {

@@ -1,6 +1,6 @@
 // A life of a zone, and what its calls are given.
 use crate::instruction::{Call, Choice, Setting};
-use crate::ledger::{Ledger, Outcome, Strips, Zone};
+use crate::played_zone::{Outcome, PlayedZone, Strips, ZoneState};
 use refusal::Refusal;
 use series::{Dated, IndexNumber};
 use sheet_parts::given::{Prices, Terms};
@@ -26,7 +26,7 @@ const TERMS: Terms = Terms {
 /// The sheet is made anew, of what was given, at each call that needs one.
 #[derive(Drop)]
 pub struct Life {
-    pub ledger: Ledger,
+    pub played: PlayedZone,
     choice: Choice,
     prices: Prices,
     terms: Terms,
@@ -38,7 +38,7 @@ pub struct Life {
 impl Life {
     pub(crate) fn new(heap: Global) -> Life {
         Life {
-            ledger: Ledger::new(),
+            played: PlayedZone::new(),
             choice: Choice::Flat,
             prices: PRICES,
             terms: TERMS,
@@ -57,9 +57,9 @@ impl Life {
             Setting::Wages(row) => self.wages.push(row)?,
             Setting::Consumer(row) => self.consumer.push(row)?,
             Setting::Record(row) => self.records.push(row)?,
-            Setting::Lend(places) => self.ledger.places = places,
-            Setting::Share(places) => self.ledger.share = places,
-            Setting::Balance { operator, micros } => self.ledger.set_balance(operator, micros),
+            Setting::Lend(places) => self.played.places = places,
+            Setting::Share(places) => self.played.share = places,
+            Setting::Balance { operator, micros } => self.played.set_balance(operator, micros),
         }
         Ok(())
     }
@@ -67,13 +67,13 @@ impl Life {
     // Plays a call, on the sheet where the zone asks one, and else on that of the prices and terms that a life begins with.
     // A sheet that cannot be made refuses the call.
     pub(crate) fn play(&mut self, strips: &mut Strips, call: Call) -> Outcome {
-        let played = match (&self.ledger.zone, call) {
-            (Zone::Prepared(_), _) | (_, Call::Launch(_)) => {
+        let outcome = match (&self.played.zone, call) {
+            (ZoneState::Prepared(_), _) | (_, Call::Launch(_)) => {
                 self.play_on_flat(PRICES, TERMS, strips, call)
             }
             _ => self.play_on_sheet(strips, call),
         };
-        played.unwrap_or_else(Outcome::Refused)
+        outcome.unwrap_or_else(Outcome::Refused)
     }
 
     // Each sheet has a type of its own.
@@ -86,13 +86,13 @@ impl Life {
                 let consumer = self.consumer.as_slice();
                 IndexedSheet::fill(&mut place, self.prices, self.terms, wages, consumer)?;
                 let Some(sheet) = &place else { unreachable!() };
-                Ok(self.ledger.play(sheet, strips, call))
+                Ok(self.played.play(sheet, strips, call))
             }
             Choice::Dated => {
                 let mut place = None;
                 DatedSheet::fill(&mut place, self.records.as_slice(), self.terms)?;
                 let Some(sheet) = &place else { unreachable!() };
-                Ok(self.ledger.play(sheet, strips, call))
+                Ok(self.played.play(sheet, strips, call))
             }
         }
     }
@@ -107,6 +107,6 @@ impl Life {
         let mut place = None;
         FlatSheet::fill(&mut place, prices, terms)?;
         let Some(sheet) = &place else { unreachable!() };
-        Ok(self.ledger.play(sheet, strips, call))
+        Ok(self.played.play(sheet, strips, call))
     }
 }

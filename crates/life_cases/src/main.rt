@@ -2,21 +2,21 @@
 // script are described in tools/life_model.py, which prints the same.
 #![tactic(auto)]
 
-mod desk;
 mod instruction;
-mod ledger;
 mod life;
+mod played_zone;
+mod player;
 mod reading;
 mod shown;
 
-use desk::Desk;
+use player::Player;
 use std::io;
 use std::io::{BufRead, BufReader};
 
 fn main(rt: HostRuntime) -> io::Result<()> {
-    let mut desk = Desk::new(rt.alloc())?;
+    let mut player = Player::new(rt.alloc())?;
     for line in BufReader::new(rt.alloc(), rt.stdin())?.lines(rt.alloc()) {
-        desk.take(&rt, line?.as_str())?;
+        player.take(&rt, line?.as_str())?;
     }
-    desk.close(&rt)
+    player.close(&rt)
 }

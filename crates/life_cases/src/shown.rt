@@ -1,5 +1,5 @@
 // The lines that are printed.
-use crate::ledger::{Ledger, Zone};
+use crate::played_zone::{PlayedZone, ZoneState};
 use book::entries::{RegisterEntry, RollEntry};
 use book::lines::Line;
 use refusal::Refusal;
@@ -61,7 +61,7 @@ impl fmt::Display for Day {
 }
 
 // The totals of a zone, and its days.
-impl fmt::Display for Ledger {
+impl fmt::Display for PlayedZone {
     fn fmt<W: fmt::Write>(&self, f: &mut fmt::Formatter<W>) -> fmt::Result {
         let figures = self.figures();
         let totals = figures.totals;
@@ -69,8 +69,8 @@ impl fmt::Display for Ledger {
         let (unshared, lines) = (totals.unshared, totals.credit_lines);
         let last = Day(figures.last);
         let launched = Day(match &self.zone {
-            Zone::Prepared(_) => None,
-            Zone::Launched(zone) => Some(zone.launch_date()),
+            ZoneState::Prepared(_) => None,
+            ZoneState::Launched(zone) => Some(zone.launch_date()),
         });
         write!(
             f,

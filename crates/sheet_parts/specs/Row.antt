@@ -18,7 +18,8 @@ in_1200ths n = record { numerator = n; denominator = 1200 }
 abbrev pub year_of : Row → ℕ → ℕ
 year_of row x = slice_index row.years x
 
--- After x years and y months, 12−y parts of the year x and y parts of the year after it, in 1,200ths.
+-- After x years and y months, 12−y parts of the year x and y parts of the year after it, in
+-- 1,200ths.
 abbrev pub interpolated : Row → ℕ → ℕ → ℕ
 interpolated row x y = (12 - y) * year_of row x + y * year_of row (x + 1)
 
@@ -34,7 +35,8 @@ by_row row installed receipt = coefficient_after row (months_between installed r
 -- The common row stays at 300/1,200 from 240 months on.
 abbrev pub common_row : Row
 common_row = record {
-  years = 100 ∷ 110 ∷ 118 ∷ 125 ∷ 127 ∷ 128 ∷ 127 ∷ 125 ∷ 122 ∷ 118 ∷ 112 ∷ 106 ∷ 98 ∷ 90 ∷ 81 ∷ 70 ∷ 59 ∷ 46 ∷ 32 ∷ 25 ∷ 25 ∷ [];
+  years = 100 ∷ 110 ∷ 118 ∷ 125 ∷ 127 ∷ 128 ∷ 127 ∷ 125 ∷ 122 ∷ 118 ∷ 112 ∷ 106 ∷ 98 ∷ 90 ∷
+      81 ∷ 70 ∷ 59 ∷ 46 ∷ 32 ∷ 25 ∷ 25 ∷ [];
   beyond = Some (in_1200ths 300);
 }
 
@@ -43,8 +45,11 @@ pub record Between (a n b : ℕ) : Type 0 where
   pub low : min a b ≤ n
   pub high : n ≤ max a b
 
--- Before the last year there is a coefficient. It lies between those of the years before and after it, a hundredth being
--- 12 parts in 1,200.
+-- Before the last year there is a coefficient. It lies between those of the years before and after
+-- it, a hundredth being 12 parts in 1,200.
 abbrev pub BetweenItsYears : Row → ℕ → Option Coefficient → Type 0
 BetweenItsYears row m answer =
-    m < last_month → IsSomeAnd answer (λ c. Between (12 * year_of row (m / 12)) c.numerator (12 * year_of row (m / 12 + 1)))
+    let year = m / 12 in
+    let before = 12 * year_of row year in
+    let after = 12 * year_of row (year + 1) in
+    m < last_month → IsSomeAnd answer (λ c. Between before c.numerator after)

@@ -12,7 +12,9 @@ use Rattle.sheet_parts.specs.declared.row.Row.{Row}
 
 -- The tariff's limits on a coefficient, as a test.
 abbrev pub coefficient_fits : Coefficient → Bool
-coefficient_fits c = within 1 c.denominator most_denominator && (nat_le c.numerator most_numerator && nat_le c.numerator (most_coefficient * c.denominator))
+coefficient_fits c =
+    let four = nat_le c.numerator (most_coefficient * c.denominator) in
+    within 1 c.denominator most_denominator && (nat_le c.numerator most_numerator && four)
 
 abbrev pub fits_if_any : Option Coefficient → Bool
 fits_if_any None = true
@@ -34,29 +36,37 @@ coefficient_limits c fits =
       four = leb-true c.numerator (most_coefficient * c.denominator) above.1;
     }
 
-beyond_limits : (beyond : Option Coefficient) → fits_if_any beyond ≡ true → Answered CoefficientLimits beyond
+beyond_limits : (beyond : Option Coefficient) → fits_if_any beyond ≡ true
+    → Answered CoefficientLimits beyond
 beyond_limits None fits = tt
 beyond_limits (Some c) fits = coefficient_limits c fits
 
 -- between two years a row passes no bound of all its years
-pub interpolated_most : (most : ℕ) (row : Row) → all_at_most most row.years ≡ true → (x y : ℕ) → y ≤ 12 → interpolated row x y ≤ 12 * most
+pub interpolated_most : (most : ℕ) (row : Row) → all_at_most most row.years ≡ true
+    → (x y : ℕ) → y ≤ 12 → interpolated row x y ≤ 12 * most
 interpolated_most most row all x y few =
     let front = mul-le-mul_left (12 - y) (at_most most row.years all x) in
     let back = mul-le-mul_left y (at_most most row.years all (x + 1)) in
-    let all_parts : (12 - y) * most + y * most ≡ 12 * most = sym (add-mul (12 - y) y most) ∙ ap (λ n. n * most) (omega arith) in
+    let all_parts : (12 - y) * most + y * most ≡ 12 * most =
+    sym (add-mul (12 - y) y most) ∙ ap (λ n. n * most) (omega arith) in
     omega arith
 
--- what holds of every mean of two years, and of what holds beyond the row, holds after any number of months
+-- what is true of every mean of two years, and of what holds beyond the row, is true after any
+-- number of months
 pub after_keeps : (P : Coefficient → Type 0) (row : Row) →
-    ((x y : ℕ) → y ≤ 12 → P (in_1200ths (interpolated row x y))) → Answered P row.beyond → (m : ℕ) → Answered P (coefficient_after row m)
+    ((x y : ℕ) → y ≤ 12 → P (in_1200ths (interpolated row x y))) → Answered P row.beyond
+    → (m : ℕ) → Answered P (coefficient_after row m)
 unfolding coefficient_after
 after_keeps P row means beyond m =
-    cond_both (nat_le m last_month) (Some (in_1200ths (interpolated row (m / 12) (m % 12)))) row.beyond (Answered P)
+    let within_row = Some (in_1200ths (interpolated row (m / 12) (m % 12))) in
+    cond_both (nat_le m last_month) within_row row.beyond (Answered P)
     (λ _. means (m / 12) (m % 12) (omega arith)) (λ _. beyond)
 
-pub row_limits : (row : Row) → row_fits row ≡ true → (m : ℕ) → Answered CoefficientLimits (coefficient_after row m)
+pub row_limits : (row : Row) → row_fits row ≡ true
+    → (m : ℕ) → Answered CoefficientLimits (coefficient_after row m)
 row_limits row fits =
-    let parts = and_parts (all_at_most (most_coefficient * whole) row.years) (fits_if_any row.beyond) fits in
+    let years = all_at_most (most_coefficient * whole) row.years in
+    let parts = and_parts years (fits_if_any row.beyond) fits in
     after_keeps CoefficientLimits row
     (λ x y few.
     let most = interpolated_most (most_coefficient * whole) row parts.0 x y few in

@@ -5,7 +5,10 @@ use Rattle.sheet_parts.specs.declared.given.Prices.{Prices}
 
 -- Prices in micro-euros from a date on.
 abbrev pub from_date : ℕ → ℕ → ℕ → ℕ → Dated Prices
-from_date date covered connectable third = record { date = date; value = record { covered = covered; connectable = connectable; third = third } }
+from_date date covered connectable third = record {
+  date = date;
+  value = record { covered = covered; connectable = connectable; third = third };
+}
 
 abbrev pub network_records : List (Dated Prices)
 network_records =

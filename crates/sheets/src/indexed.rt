@@ -15,7 +15,7 @@ use sheet_parts::rounding::rounded_five_down;
 use sheet_parts::row::Row;
 use tariff::kinds::{Coefficient, Kind};
 use tariff::quotient::Quotient;
-use tariff::tariff::Tariff;
+use tariff::tariff::{MOST_COEFFICIENT, Tariff};
 
 /// A sheet of three prices, on the common row times the smaller rise of two series of index numbers, rounding five-down.
 #[derive(PartialEq, Eq, Debug, Drop)]
@@ -147,7 +147,7 @@ fn indexed_after(months: u32, ratio: Coefficient) -> Option<Coefficient>
     let row = Row::COMMON.coefficient_after(months)?;
     let numerator = row.numerator * ratio.numerator;
     let denominator = row.denominator * ratio.denominator;
-    if numerator > 4 * denominator {
+    if numerator > MOST_COEFFICIENT * denominator {
         return None;
     }
     Some(Coefficient {

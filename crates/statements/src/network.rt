@@ -33,10 +33,12 @@ fn network_sheet() -> DatedSheet<'static>
 }
 
 /// Runs a file through an empty zone and states what came of it. Of an input that is too long the first bytes say so, one
-/// more than the longest file has: their statement is that of all of it.
+/// more than the longest file has: their statement is that of all of it. Only want of memory stops it.
 pub fn network_statement(heap: Global, bytes: &[u8]) -> Result<String, AllocError>
-    ensures value { IfOk result (λ s. string_bytes s ≡ statement_of network_sheet empty_tables bytes.now) }
-    ensures input { (given : List ℕ) → bytes.now ≡ take 65537 given → IfOk result (λ s. string_bytes s ≡ statement_of network_sheet empty_tables given) }
+    ensures value { let said = statement_of network_sheet empty_tables bytes.now in
+        IfOk result (λ s. string_bytes s ≡ said) }
+    ensures input { (given : List ℕ) → bytes.now ≡ take 65537 given →
+        IfOk result (λ s. string_bytes s ≡ statement_of network_sheet empty_tables given) }
     ensures life { RunsAsLife network_sheet empty_tables bytes.now }
 {
     let sheet = network_sheet();

@@ -49,7 +49,8 @@ pub(crate) struct Sums {
 }
 
 impl fmt::Display for Sums {
-    ghost output = { λ sums. Some (totals_text sums.totals (signed_text sums.held.negative sums.held.amount.micros)) };
+    ghost output = { λ sums.
+        Some (totals_text sums.totals (signed_text sums.held.negative sums.held.amount.micros)) };
 
     fn fmt<W: fmt::Write>(&self, f: &mut fmt::Formatter<W>) -> fmt::Result {
         let contributed = Money::from_micros(self.totals.contributed);

@@ -15,7 +15,12 @@ pub fn statement_text(
     report: &Report<'_>,
     roll: &[RollEntry],
 ) -> Result<String, AllocError>
-    ensures value { IfOk result (λ s. string_bytes s ≡ statement_text (map shown_notice report.now.notices.items) (take report.now.figures.operators roll.now) report.now.figures.totals (signed_text report.now.held.negative report.now.held.amount.micros)) }
+    ensures value { let r = report.now in
+        let notices = map shown_notice r.notices.items in
+        let members = take r.figures.operators roll.now in
+        let held = signed_text r.held.negative r.held.amount.micros in
+        let said = statement_text notices members r.figures.totals held in
+        IfOk result (λ s. string_bytes s ≡ said) }
 {
     let members = accounts(heap, roll, report.figures.operators)?;
     let notices = Lines {

@@ -25,7 +25,8 @@ pub record PriceLimits (price : ℕ) : Type 0 where
   pub some : 0 < price
   pub most : price ≤ most_price
 
--- A coefficient has a denominator of 1 to 240,000,000, a numerator of at most 480,000,000, and is at most 4.
+-- A coefficient has a denominator of 1 to 240,000,000, a numerator of at most 480,000,000, and is
+-- at most 4.
 pub record CoefficientLimits (c : Coefficient) : Type 0 where
   pub some : 0 < c.denominator
   pub small : c.denominator ≤ most_denominator

@@ -11,6 +11,9 @@ pub const YEAR_INDICES: usize = 41;
 /// The dearest price per tranche and dwelling, in micro-euros.
 pub const MOST_PRICE: u32 = 500_000_000;
 
+/// The largest value of a coefficient.
+pub const MOST_COEFFICIENT: u32 = 4;
+
 /// The whole of a price in hundredths, the most that a contribution may be.
 pub const WHOLE: u32 = 100;
 

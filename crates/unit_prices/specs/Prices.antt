@@ -16,7 +16,8 @@ price_at m kind installed = unwrap_or (m.price kind installed) 0
 
 -- The coefficient of two days; 0 where the sheet has none, which no accepted call meets.
 abbrev pub coefficient_at : Meaning → ℕ → ℕ → Coefficient
-coefficient_at m installed date = unwrap_or (m.coefficient installed date) (record { numerator = 0; denominator = 1 })
+coefficient_at m installed date =
+    unwrap_or (m.coefficient installed date) (record { numerator = 0; denominator = 1 })
 
 -- Whether something stood before a day.
 abbrev pub earlier : ℕ → ℕ → Bool
@@ -26,7 +27,9 @@ earlier installed date = nat_lt installed date
 abbrev pub unit_price : Meaning → Kind → ℕ → ℕ → ℕ → ℕ
 unit_price m kind installed date k =
     cond (earlier installed date)
-    (m.rounded (price_at m kind installed * k * (coefficient_at m installed date).numerator) (coefficient_at m installed date).denominator)
+    (m.rounded
+    (price_at m kind installed * k * (coefficient_at m installed date).numerator)
+    (coefficient_at m installed date).denominator)
     (price_at m kind installed * k)
 
 -- Installed on an earlier day, price × k × hundredths / 100, rounded; else nothing.

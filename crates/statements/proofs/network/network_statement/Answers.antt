@@ -18,7 +18,7 @@ returns-clause-value c =
     let report = c.in_ok-report.report in
     let done = c.in_ok-report.ensures in
     let says = states_the_run (dated_meaning c.network_sheet-sheet.result) empty_tables c.args.bytes.now (map shown_notice report.notices.items) report.figures (tables c.run_file.new.roll c.run_file.new.register) report.held.negative report.held.amount.micros
-    done.notices done.figures done.tables done.held.0 done.held.1 in
+    done.notices done.figures done.tables done.held.sign done.held.amount in
     let named = says ∙ ap (λ m. statement_of m empty_tables c.args.bytes.now) c.network_sheet-sheet.ensures.meaning in
     IfOk-weaker c.statement_text.result _ (λ s. string_bytes s ≡ statement_of network_sheet empty_tables c.args.bytes.now) (λ s is. is ∙ named) c.statement_text.ensures.value
 

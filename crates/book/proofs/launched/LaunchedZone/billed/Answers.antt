@@ -1,7 +1,6 @@
-use Rattle.std.proofs.Common.{◌≡◌, T, length, Ok, sym, refl, ap, ◌∙◌, subst, arith}
+use Rattle.std.proofs.Common.{◌≡◌, length, Ok, sym, refl, ap, ◌∙◌, arith}
 use Rattle.refusal.proofs.First.{carried, still_refused}
-use Rattle.calendar.specs.Days.{is_date}
-use Rattle.book.specs.Members.{Addition, addition}
+use Rattle.book.specs.Members.{addition}
 use Rattle.book.specs.Zone.{strip_after, counted_members, counted_register}
 use Rattle.book.specs.Billing.{bill}
 use Rattle.book.specs.Promises.{line_count}
@@ -34,17 +33,18 @@ of_event-increase-requires-clause-index g c =
 pub of_event-increase-requires-clause-rate : goal.of_event-increase-requires-clause-rate
 of_event-increase-requires-clause-rate g c = (able g (goal.at.of_event-increase-requires-clause-rate g c).In-Ok).rate
 
-pub bill-lines-requires-clause-real : goal.bill-lines-requires-clause-real
-bill-lines-requires-clause-real g c =
-    let is = adds g (goal.at.bill-lines-requires-clause-real g c).After-of_event-increase in
-    subst (λ (a : Addition). T (is_date a.date)) (sym is) (able g (goal.at.bill-lines-requires-clause-real g c).In-Ok).real
+pub of_event-increase-requires-clause-real : goal.of_event-increase-requires-clause-real
+of_event-increase-requires-clause-real g c = (able g (goal.at.of_event-increase-requires-clause-real g c).In-Ok).real
 
-pub bill-lines-requires-clause-room : goal.bill-lines-requires-clause-room
-bill-lines-requires-clause-room g c =
+pub bill-lines-requires : goal.bill-lines-requires
+bill-lines-requires g c =
     let m = g.T.Tariff.meaning c.args.sheet.now in
-    let a = able g (goal.at.bill-lines-requires-clause-room g c).In-Ok in
-    let is = adds g (goal.at.bill-lines-requires-clause-room g c).After-of_event-increase in
-    room_for m c.args.self.core.figures c.args.self.launch_date (tables c.args.roll.now c.args.register.now) (length c.args.strip.now) c.args.event _ is a.room
+    let a = able g (goal.at.bill-lines-requires g c).In-Ok in
+    let is = adds g (goal.at.bill-lines-requires g c).After-of_event-increase in
+    record { room = room_for m c.args.self.core.figures c.args.self.launch_date (tables c.args.roll.now c.args.register.now) (length c.args.strip.now) c.args.event _ is a.room }
+
+pub invariant_of-levy-clause-real : goal.invariant_of-levy-clause-real
+invariant_of-levy-clause-real g c = (able g (goal.at.invariant_of-levy-clause-real g c).In-Ok).real
 
 pub returns-in-Ok : goal.returns-in-Ok
 returns-in-Ok g c =

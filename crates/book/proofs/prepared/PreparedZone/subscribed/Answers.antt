@@ -14,6 +14,13 @@ of_event-increase-requires-clause-rate c =
     let v = c.args.event in
     (subscribable f t v _ c.args.self.core.few_operators (sym c.check_subscription.ensures.answer ∙ c.in-Ok.is)).rate
 
+pub of_event-increase-requires-clause-real : goal.of_event-increase-requires-clause-real
+of_event-increase-requires-clause-real c =
+    let f = c.args.self.core.figures in
+    let t = tables c.args.roll.now c.args.register.now in
+    let v = c.args.event in
+    (subscribable f t v _ c.args.self.core.few_operators (sym c.check_subscription.ensures.answer ∙ c.in-Ok.is)).real
+
 pub enter-operators-requires : goal.enter-operators-requires
 enter-operators-requires c =
     let f = c.args.self.core.figures in

@@ -12,6 +12,6 @@ returns g c =
     let o = c.args.self.item.now in
     let i = c.args.increase in
     let real = (sized_of o c.args.self.sound).1 in
-    let is = c.unwrap_or.ensures ∙ ap (λ r. result_unwrap_or r 0) c.unit_price.ensures.answer ∙ price_taken m law o.kind o.installed i.date i.tranches real c.requires.real i.few in
-    let most = unit_price_most m law o.kind o.installed i.date i.tranches real c.requires.real i.few in
+    let is = c.unwrap_or.ensures ∙ ap (λ r. result_unwrap_or r 0) c.unit_price.ensures.answer ∙ price_taken m law o.kind o.installed i.date i.tranches real i.real i.few in
+    let most = unit_price_most m law o.kind o.installed i.date i.tranches real i.real i.few in
     record { value = is; most = omega (arith, is, most) }

@@ -113,9 +113,9 @@ impl fmt::Display for Standing {
 
 /// The line of an entry or of a refusal.
 #[derive(Clone, Copy)]
-pub struct Line<'a>(pub Result<Entry<'a>, Fault>);
+pub struct ListingLine<'a>(pub Result<Entry<'a>, Fault>);
 
-impl<'a> fmt::Display for Line<'a> {
+impl<'a> fmt::Display for ListingLine<'a> {
     ghost output = { λ line. Some (line_text line.0) };
 
     fn fmt<W: fmt::Write>(&self, f: &mut fmt::Formatter<W>) -> fmt::Result {

@@ -1,7 +1,7 @@
-// The desk that plays a script line by line.
+// The player that plays a script line by line.
 use crate::instruction::Instruction;
-use crate::ledger::{Outcome, STRIP_PLACES, Strips};
 use crate::life::Life;
+use crate::played_zone::{Outcome, STRIP_PLACES, Strips};
 use crate::reading::instruction_in;
 use crate::shown::Shown;
 use at_once::settled::MOST_LINES;
@@ -11,14 +11,14 @@ use std::io;
 
 /// The life that is played, if one has begun, and the strips.
 #[derive(Drop)]
-pub struct Desk {
+pub struct Player {
     life: Option<Life>,
     strips: Strips,
 }
 
-impl Desk {
-    pub(crate) fn new(heap: Global) -> Result<Desk, AllocError> {
-        Ok(Desk {
+impl Player {
+    pub(crate) fn new(heap: Global) -> Result<Player, AllocError> {
+        Ok(Player {
             life: None,
             strips: Strips {
                 bill: vec![in heap; Line::BLANK; STRIP_PLACES]?,
@@ -57,17 +57,17 @@ impl Desk {
         let Some(life) = &self.life else {
             return Ok(());
         };
-        let ledger = &life.ledger;
-        let figures = ledger.figures();
-        let operators = ledger.roll.iter().take(figures.operators);
-        let objects = ledger.register.iter().take(figures.objects);
+        let played = &life.played;
+        let figures = played.figures();
+        let operators = played.roll.iter().take(figures.operators);
+        let objects = played.register.iter().take(figures.objects);
         for shown in operators
             .map(Shown::Operator)
             .chain(objects.map(Shown::Object))
         {
             println!(rt; "{shown}")?;
         }
-        println!(rt; "{ledger}")
+        println!(rt; "{played}")
     }
 }
 

@@ -22,7 +22,7 @@ pub const STRIP_PLACES: usize = 1_200;
 
 /// In preparation or launched. Each levy is shared out at once, so there is no third case.
 #[derive(Drop)]
-pub enum Zone {
+pub enum ZoneState {
     Prepared(PreparedZone),
     Launched(LaunchedZone),
 }
@@ -48,8 +48,8 @@ pub enum Outcome {
 }
 
 #[derive(Drop)]
-pub struct Ledger {
-    pub zone: Zone,
+pub struct PlayedZone {
+    pub zone: ZoneState,
     pub roll: [RollEntry; ROLL_PLACES],
     pub register: [RegisterEntry; REGISTER_PLACES],
     pub places: Places,
@@ -63,7 +63,7 @@ fn first<T>(all: &mut [T], places: usize) -> &mut [T] {
 }
 
 // A zone after a call that writes no line, or after one that does.
-const fn unbilled(zone: Zone) -> (Zone, Outcome) {
+const fn unbilled(zone: ZoneState) -> (ZoneState, Outcome) {
     let outcome = Outcome::Done {
         billed: 0,
         turned_down: None,
@@ -72,28 +72,34 @@ const fn unbilled(zone: Zone) -> (Zone, Outcome) {
     (zone, outcome)
 }
 
-fn settled(done: Settled) -> (Zone, Outcome) {
+fn settled(done: Settled) -> (ZoneState, Outcome) {
     let outcome = Outcome::Done {
         billed: done.billed,
         turned_down: done.turned_down,
         credited: done.credited,
     };
-    (Zone::Launched(done.zone), outcome)
+    (ZoneState::Launched(done.zone), outcome)
 }
 
-fn refused_prepared(back: Refused<PreparedZone>) -> (Zone, Outcome) {
-    (Zone::Prepared(back.kept), Outcome::Refused(back.refusal))
+fn refused_prepared(back: Refused<PreparedZone>) -> (ZoneState, Outcome) {
+    (
+        ZoneState::Prepared(back.kept),
+        Outcome::Refused(back.refusal),
+    )
 }
 
-fn refused_launched(back: Refused<LaunchedZone>) -> (Zone, Outcome) {
-    (Zone::Launched(back.kept), Outcome::Refused(back.refusal))
+fn refused_launched(back: Refused<LaunchedZone>) -> (ZoneState, Outcome) {
+    (
+        ZoneState::Launched(back.kept),
+        Outcome::Refused(back.refusal),
+    )
 }
 
-impl Ledger {
+impl PlayedZone {
     // An empty zone in preparation, with blank tables that are lent whole.
-    pub(crate) const fn new() -> Ledger {
-        Ledger {
-            zone: Zone::Prepared(PreparedZone::new()),
+    pub(crate) const fn new() -> PlayedZone {
+        PlayedZone {
+            zone: ZoneState::Prepared(PreparedZone::new()),
             roll: [RollEntry::BLANK; ROLL_PLACES],
             register: [RegisterEntry::BLANK; REGISTER_PLACES],
             places: Places {
@@ -108,8 +114,8 @@ impl Ledger {
     // The zone's plain numbers.
     pub(crate) fn figures(&self) -> Figures {
         match &self.zone {
-            Zone::Prepared(zone) => zone.figures(),
-            Zone::Launched(zone) => zone.figures(),
+            ZoneState::Prepared(zone) => zone.figures(),
+            ZoneState::Launched(zone) => zone.figures(),
         }
     }
 
@@ -131,18 +137,24 @@ impl Ledger {
         call: Call,
     ) -> Outcome {
         // An empty zone stands in its place while the zone is moved through the call.
-        let before = mem::replace(&mut self.zone, Zone::Prepared(PreparedZone::new()));
+        let before = mem::replace(&mut self.zone, ZoneState::Prepared(PreparedZone::new()));
         let (after, outcome) = match (before, call) {
-            (Zone::Prepared(zone), Call::Launch(date)) => self
+            (ZoneState::Prepared(zone), Call::Launch(date)) => self
                 .launched(zone, date)
-                .map_or_else(refused_prepared, |after| unbilled(Zone::Launched(after))),
-            (Zone::Prepared(zone), Call::Subscription(event)) => self
+                .map_or_else(
+                    refused_prepared,
+                    |after| unbilled(ZoneState::Launched(after)),
+                ),
+            (ZoneState::Prepared(zone), Call::Subscription(event)) => self
                 .subscribed(zone, event)
-                .map_or_else(refused_prepared, |after| unbilled(Zone::Prepared(after))),
-            (Zone::Launched(zone), Call::Subscription(event)) => self
+                .map_or_else(
+                    refused_prepared,
+                    |after| unbilled(ZoneState::Prepared(after)),
+                ),
+            (ZoneState::Launched(zone), Call::Subscription(event)) => self
                 .billed(zone, sheet, strips, event)
                 .map_or_else(refused_launched, settled),
-            (Zone::Launched(zone), Call::Installation(entry)) => self
+            (ZoneState::Launched(zone), Call::Installation(entry)) => self
                 .installed(zone, sheet, strips, entry)
                 .map_or_else(refused_launched, settled),
             (zone, _) => (zone, Outcome::NotTaken),
