@@ -25,15 +25,15 @@ use Rattle.book.proofs.Accounts.{every_life_accounted}
 use Rattle.book.proofs.Ending.{never_refused}
 use Rattle.book.proofs.Passing.{accepted_is}
 use Rattle.book.proofs.Stepping.{lives}
-use Rattle.at_once.specs.Steps.{Strips, strips, Room, room_on, call_of, call_for, share_outs, steps_for, most_lines, refusal_in, lines_of}
+use Rattle.at_once.specs.Steps.{Strips, strips, Room, room_on, change_call, call_for, share_outs, event_steps, most_lines, answer_refusal, lines_of}
 use Rattle.at_once.specs.Promises.{IsFilled, IsSettled, LivesOnBy}
 
 -- every life goes on by an event and its share-outs
 pub event_lives : (m : Meaning) → Lawful m → (zone : LaunchedZone) (t : Tables) (v : Event) (first : ℕ) (before : Strips) →
-    LivesOnBy m (launched_on zone t) (steps_for v (room_on before first))
+    LivesOnBy m (launched_on zone t) (event_steps v (room_on before first))
 event_lives m law zone t v first before made life =
     let s = launched_on zone t in
-    let steps = steps_for v (room_on before first) in
+    let steps = event_steps v (room_on before first) in
     let more = lives m steps s made life in (more, every_life_accounted m law (calls m s steps made) (lived m s steps) more)
 
 -- no share-out of a zone has more lines than its limits allow
@@ -55,7 +55,7 @@ counted_lines zone t f operators objects same counted listed =
     λ i. members i * register i
 
 -- the call of an event bills it, or subscribes before the launch
-takes_change : (m : Meaning) (s : State) (places : ℕ) (change : Change) (date operator rate : ℕ) → answer_to m s places (call_of change date operator rate) ≡
+takes_change : (m : Meaning) (s : State) (places : ℕ) (change : Change) (date operator rate : ℕ) → answer_to m s places (change_call change date operator rate) ≡
     answer_to_event m s.figures s.tables places (record { change = change; date = date; operator = operator; rate = rate }) s.phase
 takes_change m s places Commitment date operator rate = refl
 takes_change m s places Raise date operator rate = refl
@@ -142,7 +142,7 @@ module _ (m : Meaning) (zone : LaunchedZone) (t : Tables) (v : Event) (first : �
         record {
           state = sym (ap (λ a. lived m (next s a) (share_outs room)) bills.given ∙ ap (λ a. lived m (next open_levy a) (share_out on room.credits ∷ [])) taken);
           bill = bill_filled;
-          turned_down = sym (ap (λ a. refusal_in (answer_at m (next s a) (share_out on room.first))) bills.given ∙ ap refusal_in taken);
+          turned_down = sym (ap (λ a. answer_refusal (answer_at m (next s a) (share_out on room.first))) bills.given ∙ ap answer_refusal taken);
           credits = record {
             strip = ap (λ l. l ++ drop few before.credits) is.strip ∙ widened lines before.credits few short ∙ ap (λ l. written l before.credits) (sym all);
             count = is.count ∙ ap length (sym all);
@@ -182,7 +182,7 @@ module _ (m : Meaning) (zone : LaunchedZone) (t : Tables) (v : Event) (first : �
         record {
           state = sym (ap (λ a. lived m (next s a) (share_outs room)) bills.given ∙ ap (λ a. lived m (next open_levy a) (share_out on room.credits ∷ [])) turned_first ∙ ap (next open_levy) taken);
           bill = bill_filled;
-          turned_down = sym (ap (λ a. refusal_in (answer_at m (next s a) (share_out on room.first))) bills.given ∙ ap refusal_in turned_first);
+          turned_down = sym (ap (λ a. answer_refusal (answer_at m (next s a) (share_out on room.first))) bills.given ∙ ap answer_refusal turned_first);
           credits = record {
             strip = is.strip ∙ ap (written lines) whole ∙ ap (λ l. written l before.credits) (sym all);
             count = is.count ∙ ap length (sym all);

@@ -2,8 +2,8 @@
 --   Strips       the two strips that an event is lent
 --   Room         how many places they have
 --   call_for     the call of an event
---   steps_for    that call, and the share-outs that end the levy it may open
---   refusal_to   why an event is refused, if it is
+--   event_steps    that call, and the share-outs that end the levy it may open
+--   event_refusal   why an event is refused, if it is
 --   bill_lines   the lines of its bill; credit_lines, those of its share-out
 use Rattle.std.specs.Prelude.{ℕ, ◌*◌, min, if◌then◌else◌, nat_lt, List, [], ◌∷◌, ◌++◌, length, Some, None, Ok, Err, Option}
 use Rattle.refusal.specs.declared.Refusal.{Refusal}
@@ -40,19 +40,19 @@ room_on lent places = record {
 }
 
 -- An event is a commitment or a raise.
-abbrev pub call_of : Change → ℕ → ℕ → ℕ → Call
-call_of Commitment date operator rate = commitment date operator rate
-call_of Raise date operator rate = raise date operator rate
+abbrev pub change_call : Change → ℕ → ℕ → ℕ → Call
+change_call Commitment date operator rate = commitment date operator rate
+change_call Raise date operator rate = raise date operator rate
 
 abbrev pub call_for : Event → Call
-call_for v = call_of v.change v.date v.operator v.rate
+call_for v = change_call v.change v.date v.operator v.rate
 
 -- Its levy is shared out on the first places, and on all of them where it is still open.
 abbrev pub share_outs : Room → List Step
 share_outs room = share_out on room.first ∷ share_out on room.credits ∷ []
 
-abbrev pub steps_for : Event → Room → List Step
-steps_for v room = call_for v on room.bill ∷ share_outs room
+abbrev pub event_steps : Event → Room → List Step
+event_steps v room = call_for v on room.bill ∷ share_outs room
 
 -- What the event's own call is answered, and the state that it leads to.
 abbrev pub billed_as : Meaning → State → Event → Room → Option Answer
@@ -63,27 +63,32 @@ after_bill m s v room = next s (billed_as m s v room)
 
 -- No share-out has more lines than one for each counted operator and each counted object together.
 abbrev pub most_lines : State → ℕ
-most_lines s = length (counted_roll s.figures s.tables) * length (counted_register s.figures s.tables)
+most_lines s = length (counted_roll s.figures s.tables) * length
+    (counted_register s.figures s.tables)
 
 -- The refusal of an answer, if it is one.
-abbrev pub refusal_in : Option Answer → Option Refusal
-refusal_in None = None
-refusal_in (Some (Ok effect)) = None
-refusal_in (Some (Err refusal)) = Some refusal
+abbrev pub answer_refusal : Option Answer → Option Refusal
+answer_refusal None = None
+answer_refusal (Some (Ok effect)) = None
+answer_refusal (Some (Err refusal)) = Some refusal
 
--- With too few places for the longest share-out an event is refused before anything else, else as its call is.
-abbrev pub refusal_to : Meaning → State → Event → Room → Option Refusal
-refusal_to m s v room =
-    if nat_lt room.credits (most_lines s) then Some StripTooShort else refusal_in (billed_as m s v room)
+-- With too few places for the longest share-out an event is refused before anything else, else as
+-- its call is.
+abbrev pub event_refusal : Meaning → State → Event → Room → Option Refusal
+event_refusal m s v room =
+    if nat_lt room.credits (most_lines s) then Some StripTooShort else
+    answer_refusal (billed_as m s v room)
 
 -- Why the first share-out is refused, if it is.
 abbrev pub first_refusal : Meaning → State → Event → Room → Option Refusal
-first_refusal m s v room = refusal_in (answer_at m (after_bill m s v room) (share_out on room.first))
+first_refusal m s v room = answer_refusal (answer_at m (after_bill m s v room)
+    (share_out on room.first))
 
 -- The lines that steps write, one step's after the other's.
 abbrev pub lines_of : Meaning → State → List Step → List Line
 lines_of m s [] = []
-lines_of m s (step ∷ steps) = lines_in (answer_at m s step) ++ lines_of m (next s (answer_at m s step)) steps
+lines_of m s (step ∷ steps) = lines_in (answer_at m s step) ++
+    lines_of m (next s (answer_at m s step)) steps
 
 abbrev pub bill_lines : Meaning → State → Event → Room → List Line
 bill_lines m s v room = lines_in (billed_as m s v room)

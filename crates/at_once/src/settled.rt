@@ -3,7 +3,7 @@ ghost use Rattle.std.specs.Prelude.{◌≡◌, ◌*◌, ◌≤◌, IfOk, IfErr};
 ghost use Rattle.book.specs.Limits.{most_operators, most_objects};
 ghost use Rattle.book.specs.Passing.{tables};
 ghost use Rattle.book.specs.Promises.{launched_on, levied_on, written_answer, written_count, IsAnswered, WholeLifeLaws};
-ghost use Rattle.at_once.specs.Steps.{strips, room_on, call_for, steps_for, most_lines, refusal_to};
+ghost use Rattle.at_once.specs.Steps.{strips, room_on, call_for, event_steps, most_lines, event_refusal};
 ghost use Rattle.at_once.specs.Promises.{refusal_of, IsSettled, LivesOnBy};
 
 use book::entries::{RegisterEntry, RollEntry};
@@ -14,7 +14,7 @@ use book::limits::{MOST_OBJECTS, MOST_OPERATORS};
 use book::lines::Line;
 use book::outcome::{Refused, Written};
 use refusal::Refusal;
-use tariff::tariff::Tariff;
+use tariff::questions::Tariff;
 
 /// Places enough for any share-out: one for each operator and each object that a zone can count together.
 pub const MOST_LINES: usize = MOST_OPERATORS * MOST_OBJECTS;
@@ -82,7 +82,7 @@ pub fn bill_and_share_out<T: Tariff>(
 ) -> Result<Settled, Refused<LaunchedZone>>
     ensures answer { let s = launched_on zone (tables roll.old register.now) in
         let room = room_on (strips bill.old credits.old) first in
-        refusal_of result ≡ refusal_to (T.meaning sheet.now) s event room }
+        refusal_of result ≡ event_refusal (T.meaning sheet.now) s event room }
     ensures settled { let s = launched_on zone (tables roll.old register.now) in
         let before = strips bill.old credits.old in
         let after = strips bill.new credits.new in
@@ -93,7 +93,7 @@ pub fn bill_and_share_out<T: Tariff>(
         IfErr result (λ back. (back.kept ≡ zone) × (roll.new ≡ roll.old) × (after ≡ before)) }
     ensures life { let s = launched_on zone (tables roll.old register.now) in
         let room = room_on (strips bill.old credits.old) first in
-        LivesOnBy (T.meaning sheet.now) s (steps_for event room) }
+        most_lines s ≤ room.credits → LivesOnBy (T.meaning sheet.now) s (event_steps event room) }
     ensures longest { let s = launched_on zone (tables roll.old register.now) in
         most_lines s ≤ most_operators * most_objects }
     ensures laws { WholeLifeLaws }

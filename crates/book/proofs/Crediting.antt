@@ -271,18 +271,25 @@ module _ {m : Meaning} {a : Addition} {whole : ℕ} {os : List RegisterEntry} {r
 
 module _ {m : Meaning} {a : Addition} {whole : ℕ} {os : List RegisterEntry} {roll₀ : List RollEntry} {strip₀ : List Line} {k n brought paid : ℕ} {roll : List RollEntry} {strip : List Line}
     (s : Outer m a whole os roll₀ strip₀ k n brought paid roll strip) where
-  pub outer_done : length os ≤ k → length (lines_all m a whole os roll₀) ≤ length strip₀ →
-      (n ≡ length (lines_all m a whole os roll₀)) × (strip ≡ written (lines_all m a whole os roll₀) strip₀) × (roll ≡ map (paid_all m a whole os) roll₀) ×
-      (brought ≡ total (object_contribution m a) os) × (paid ≡ sums (lines_all m a whole os roll₀))
+  -- what the loop over all objects comes to
+  pub record AllShared : Type 0 where
+    pub number : n ≡ length (lines_all m a whole os roll₀)
+    pub strip_then : strip ≡ written (lines_all m a whole os roll₀) strip₀
+    pub roll_then : roll ≡ map (paid_all m a whole os) roll₀
+    pub contributed : brought ≡ total (object_contribution m a) os
+    pub credited : paid ≡ sums (lines_all m a whole os roll₀)
+
+  pub outer_done : length os ≤ k → length (lines_all m a whole os roll₀) ≤ length strip₀ → AllShared
   outer_done h room =
       let none : lines_all m a whole (drop k os) roll ≡ [] = at_drop_all (λ gs. lines_all m a whole gs roll) os k h in
-      let w = all_written s.lines none room in (
-        w.0,
-        w.1,
-        sym (paid_none m a whole roll) ∙ sym (at_drop_all (λ gs. map (paid_all m a whole gs) roll) os k h) ∙ s.entries,
-        omega (arith, s.given, at_drop_all (total (object_contribution m a)) os k h),
-        omega (arith, s.sum, ap sums none),
-      )
+      let (count, filled) = all_written s.lines none room in
+      record {
+        number = count;
+        strip_then = filled;
+        roll_then = sym (paid_none m a whole roll) ∙ sym (at_drop_all (λ gs. map (paid_all m a whole gs) roll) os k h) ∙ s.entries;
+        contributed = omega (arith, s.given, at_drop_all (total (object_contribution m a)) os k h);
+        credited = omega (arith, s.sum, ap sums none);
+      }
 
   pub rate_in : (i : ℕ) (d : RollEntry) → i < length roll → rate_of (get_or roll i d).tranches ≤ 20
   rate_in i d h = All-get_or (λ e. rate_of e.tranches ≤ 20) roll i d h s.rates

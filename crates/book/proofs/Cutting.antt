@@ -5,7 +5,7 @@ use Rattle.std.proofs.lemmas.Bool.{eq-eqb}
 use Rattle.calendar.specs.Days.{is_date}
 use Rattle.tariff.specs.Meaning.{Meaning, Lawful, Near, CoefficientLimits}
 use Rattle.tariff.specs.declared.kinds.Kind.{Kind}
-use Rattle.tariff.specs.Bounds.{most_price}
+use Rattle.tariff.specs.Bounds.{most_price, most_denominator, most_numerator, most_rounded}
 use Rattle.book.specs.Lists.{total}
 use Rattle.book.specs.Lines.{line, shows, unit_of, unit_shown}
 use Rattle.book.specs.Members.{Addition}
@@ -21,11 +21,11 @@ use Rattle.unit_prices.proofs.Bounds.{price_most, limits_of}
 use Rattle.book.proofs.Amounts.{Sized, real_day}
 
 -- numbers a × k for each k of a list, each rounded over d, and the one of their sum
-module _ (m : Meaning) (law : Lawful m) (a d : ℕ) (pos : 0 < d) (small : d ≤ 240000000) where
+module _ (m : Meaning) (law : Lawful m) (a d : ℕ) (pos : 0 < d) (small : d ≤ most_denominator) where
   abbrev part : ℕ → ℕ
   part k = m.rounded (a * k) d
 
-  sums : (ks : List ℕ) → a * total (λ k. k) ks ≤ 9000000000000000000 →
+  sums : (ks : List ℕ) → a * total (λ k. k) ks ≤ most_rounded →
       (total part ks * d ≤ a * total (λ k. k) ks + length ks * d) × (a * total (λ k. k) ks ≤ total part ks * d + length ks * d)
   sums [] fits = simp (mul-zero, zero-mul) (omega arith)
   sums (k ∷ ks) fits =
@@ -37,7 +37,7 @@ module _ (m : Meaning) (law : Lawful m) (a d : ℕ) (pos : 0 < d) (small : d ≤
       let q : suc (length ks) * d ≡ length ks * d + d = suc-mul (length ks) d in
       omega arith
 
-  rounded_apart : (ks : List ℕ) → a * total (λ k. k) ks ≤ 9000000000000000000 → Apart (length ks) (part (total (λ k. k) ks)) (total part ks)
+  rounded_apart : (ks : List ℕ) → a * total (λ k. k) ks ≤ most_rounded → Apart (length ks) (part (total (λ k. k) ks)) (total part ks)
   rounded_apart ks fits =
       let s = sums ks fits in
       let n : Near (a * total (λ k. k) ks) d (part (total (λ k. k) ks)) = law.near (a * total (λ k. k) ks) d fits pos small in
@@ -56,7 +56,7 @@ turned : (p k c : ℕ) → p * k * c ≡ p * c * k
 turned p k c = mul_assoc p k c ∙ ap (λ x. p * x) (mul_comm k c) ∙ sym (mul_assoc p c k)
 
 -- p k c over d rounded for each k of a list, and for their sum
-scaled_apart : (m : Meaning) (law : Lawful m) (p c d : ℕ) → 0 < d → d ≤ 240000000 → (ks : List ℕ) → p * c * total (λ k. k) ks ≤ 9000000000000000000 →
+scaled_apart : (m : Meaning) (law : Lawful m) (p c d : ℕ) → 0 < d → d ≤ most_denominator → (ks : List ℕ) → p * c * total (λ k. k) ks ≤ most_rounded →
     Apart (length ks) (m.rounded (p * total (λ k. k) ks * c) d) (total (λ k. m.rounded (p * k * c) d) ks)
 scaled_apart m law p c d pos small ks fits =
     let h = rounded_apart m law (p * c) d pos small ks fits in
@@ -79,8 +79,8 @@ module _ (m : Meaning) (law : Lawful m) (kind : Kind) (installed date : ℕ) (ks
       go true =
           let c = coefficient_at m installed date in
           let f : CoefficientLimits c = limits_of (m.coefficient installed date) (law.coefficients installed date real today) in
-          let x : price_at m kind installed * c.numerator ≤ most_price * 480000000 = mul-le-mul low f.most in
-          let y : price_at m kind installed * c.numerator * total (λ k. k) ks ≤ most_price * 480000000 * 20 = mul-le-mul x few in
+          let x : price_at m kind installed * c.numerator ≤ most_price * most_numerator = mul-le-mul low f.most in
+          let y : price_at m kind installed * c.numerator * total (λ k. k) ks ≤ most_price * most_numerator * 20 = mul-le-mul x few in
           scaled_apart m law (price_at m kind installed) c.numerator c.denominator f.some f.small ks (omega arith)
 
   contribution_apart : Apart (length ks) (unit_contribution m kind installed date (total (λ k. k) ks)) (total (λ k. unit_contribution m kind installed date k) ks)

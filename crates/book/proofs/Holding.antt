@@ -1,6 +1,7 @@
 -- What rounded shares of one amount hold back or overpay: less than one for each share.
 use Rattle.std.proofs.Common.{◌≡◌, ℕ, zero, suc, ◌+◌, ◌-◌, ◌*◌, ◌<◌, ◌≤◌, List, [], ◌∷◌, subst, add-zero, add-mul, lt_of_mul-lt-mul_right, one-mul, mul-zero, zero-mul, mul-one, mul-suc, mul-add, le_of_mul-le-mul_right, arith}
 use Rattle.tariff.specs.Meaning.{Meaning, Lawful}
+use Rattle.tariff.specs.Bounds.{most_denominator, most_rounded}
 use Rattle.book.specs.Lists.{total}
 use Rattle.book.specs.Sharing.{share, due}
 
@@ -15,7 +16,7 @@ pub within_add : (m n x y u v : ℕ) → Within m x y → Within n u v → Withi
 within_add m n x y u v p q = omega arith
 
 -- one share times the whole weight misses its exact part by at most w - 1, and by nothing where none is due
-one : (m : Meaning) → Lawful m → (a v w : ℕ) → a * v ≤ 9000000000000000000 → 0 < w → w ≤ 240000000 →
+one : (m : Meaning) → Lawful m → (a v w : ℕ) → a * v ≤ most_rounded → 0 < w → w ≤ most_denominator →
     Close (due a v * (w - 1)) (share m a v w 1 * w) (a * v)
 one m law zero v w fits pos few = simp zero-mul (omega arith)
 one m law (suc a) zero w fits pos few = simp (mul-zero, zero-mul) (omega arith)
@@ -23,7 +24,7 @@ one m law (suc a) (suc v) w fits pos few =
     let n = law.near (suc a * suc v) w fits pos few in simp (one-mul, mul-one) (omega arith)
 
 module _ {A : Type 0} (weight : A → ℕ) where
-  many : (m : Meaning) → Lawful m → (a w : ℕ) → 0 < w → w ≤ 240000000 → (xs : List A) → a * total weight xs ≤ 9000000000000000000 →
+  many : (m : Meaning) → Lawful m → (a w : ℕ) → 0 < w → w ≤ most_denominator → (xs : List A) → a * total weight xs ≤ most_rounded →
       Close (total (λ x. due a (weight x)) xs * (w - 1)) (total (λ x. share m a (weight x) w 1) xs * w) (a * total weight xs)
   many m law a w pos few [] fits = simp (mul-zero, zero-mul) (omega arith)
   many m law a w pos few (x ∷ xs) fits =
@@ -45,7 +46,7 @@ whole (suc c) (suc w) x a pos h =
     let q : x < a + suc c = lt_of_mul-lt-mul_right (suc w) (omega arith) in omega arith
 
 -- the shares of an amount, by the weights of a list, and the amount
-pub conserved : {A : Type 0} (weight : A → ℕ) (m : Meaning) → Lawful m → (a : ℕ) (xs : List A) → a * total weight xs ≤ 9000000000000000000 → 0 < total weight xs → total weight xs ≤ 240000000 →
+pub conserved : {A : Type 0} (weight : A → ℕ) (m : Meaning) → Lawful m → (a : ℕ) (xs : List A) → a * total weight xs ≤ most_rounded → 0 < total weight xs → total weight xs ≤ most_denominator →
     Within (total (λ x. due a (weight x)) xs) a (total (λ x. share m a (weight x) (total weight xs) 1) xs)
 conserved weight m law a xs fits pos few =
     let h = many weight m law a (total weight xs) pos few xs fits in (

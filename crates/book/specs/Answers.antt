@@ -8,10 +8,9 @@ use Rattle.std.specs.Prelude.{ℕ, ◌+◌, List, [], ◌∷◌, ◌++◌, lengt
 use Rattle.refusal.specs.Checks.{Check, in_turn}
 use Rattle.calendar.specs.Days.{index_of}
 use Rattle.tariff.specs.Meaning.{Meaning}
-use Rattle.book.specs.Lists.{total}
 use Rattle.book.specs.Members.{members_of, Addition, addition, entered_roll, whole_weight}
 use Rattle.book.specs.Billing.{bill, charged}
-use Rattle.book.specs.Sharing.{object_contribution, payout, credits, left_unshared}
+use Rattle.book.specs.Sharing.{payout, credits, more_totals, moved_by}
 use Rattle.book.specs.Zone.{Tables, counted_roll, counted_register, counted_members, preparing, launched, levied, Effect, Answer, dated, counting_operators, counting_objects, with_totals, with_roll, with_register}
 use Rattle.book.specs.Refusals.{table_checks, date_checks, launched_date_checks, roll_checks, register_checks, price_checks, sheet_checks, strip_checks}
 use Rattle.book.specs.declared.entries.RollEntry.{RollEntry}
@@ -87,13 +86,13 @@ installation m f launch_date t places o =
     in_turn (installation_checks m f launch_date t places o)
     (installation_effect m f launch_date t o)
 
--- What an event adds to a launched zone: its tranches by the roll as it stands, in the year index of
--- its day.
+-- What an event adds to a launched zone: its tranches by the roll as it stands, in the year index
+-- of its day.
 abbrev pub added : Figures → ℕ → Tables → Event → Addition
 added f launch_date t v = addition (index_of launch_date v.date) v (counted_members f t)
 
--- After the launch a commitment or raise bills every object and opens a levy, which keeps the event;
--- the tables stay.
+-- After the launch a commitment or raise bills every object and opens a levy, which keeps the
+-- event; the tables stay.
 abbrev pub billing_lines : Meaning → Figures → ℕ → Tables → Event → List Line
 billing_lines m f launch_date t v = bill m (added f launch_date t v) (counted_register f t)
 
@@ -144,19 +143,11 @@ settled_roll m f launch_date t v =
     entered_roll (added f launch_date t v)
     (credited_roll m (added f launch_date t v) (counted_register f t) (counted_roll f t))
 
--- What is contributed, the lines' totals, what is unshared and the number of lines add to the zone's
--- totals.
+-- What a share-out moves adds to the zone's totals.
 abbrev pub settled_totals : Meaning → Figures → ℕ → Tables → Event → Totals
-settled_totals m f launch_date t v = record {
-  contributed =
-      f.totals.contributed +
-      total (object_contribution m (added f launch_date t v)) (counted_register f t);
-  credited = f.totals.credited + total (λ l. l.total) (settling_lines m f launch_date t v);
-  unshared =
-      f.totals.unshared +
-      left_unshared m (added f launch_date t v) (counted_register f t) (counted_members f t);
-  credit_lines = f.totals.credit_lines + length (settling_lines m f launch_date t v);
-}
+settled_totals m f launch_date t v =
+    more_totals f.totals
+    (moved_by m (added f launch_date t v) (counted_register f t) (counted_members f t))
 
 abbrev pub settling_effect : Meaning → Figures → ℕ → Tables → Event → Effect
 settling_effect m f launch_date t v = record {

@@ -16,18 +16,23 @@ pub data Call : Type 0 where
 
 -- The event of a commitment and of a raise.
 abbrev pub commitment_event : ℕ → ℕ → ℕ → Event
-commitment_event date operator rate = record { change = Commitment; date = date; operator = operator; rate = rate }
+commitment_event date operator rate =
+    record { change = Commitment; date = date; operator = operator; rate = rate }
 
 abbrev pub raise_event : ℕ → ℕ → ℕ → Event
-raise_event date operator rate = record { change = Raise; date = date; operator = operator; rate = rate }
+raise_event date operator rate =
+    record { change = Raise; date = date; operator = operator; rate = rate }
 
--- An opening enters a PM, which covers its dwellings; a cabling enters a site, by a third party or not.
+-- An opening enters a PM, which covers its dwellings; a cabling enters a site, by a third party or
+-- not.
 abbrev pub opened : ℕ → ℕ → ℕ → RegisterEntry
-opened date object dwellings = record { object = object; kind = Covered; installed = date; dwellings = dwellings }
+opened date object dwellings =
+    record { object = object; kind = Covered; installed = date; dwellings = dwellings }
 
 abbrev pub site_kind : Bool → Kind
 site_kind true = ThirdParty
 site_kind false = Connectable
 
 abbrev pub cabled : ℕ → ℕ → Bool → ℕ → RegisterEntry
-cabled date object third dwellings = record { object = object; kind = site_kind third; installed = date; dwellings = dwellings }
+cabled date object third dwellings =
+    record { object = object; kind = site_kind third; installed = date; dwellings = dwellings }

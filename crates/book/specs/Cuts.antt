@@ -33,8 +33,10 @@ pub data Cut (m : Meaning) (date operator rate : ℕ) : State → List (List Lin
   ends : {s : State} {effect : Effect} →
       Accepts m s (raise date operator rate) effect → Cut m date operator rate s (effect.lines ∷ [])
   raised : {s : State} {effect : Effect} {rest : List (List Line)} (to : ℕ) →
-      Accepts m s (raise date operator to) effect → Cut m date operator rate effect.state rest → Cut m date operator rate s (effect.lines ∷ rest)
+      Accepts m s (raise date operator to) effect → Cut m date operator rate effect.state rest →
+      Cut m date operator rate s (effect.lines ∷ rest)
   passed : {s : State} {effect : Effect} {rest : List (List Line)} (call : Call) → Between call →
-      Accepts m s call effect → Cut m date operator rate effect.state rest → Cut m date operator rate s rest
+      Accepts m s call effect → Cut m date operator rate effect.state rest →
+      Cut m date operator rate s rest
   stayed : {s : State} {rest : List (List Line)} (call : Call) →
       Refuses m s call → Cut m date operator rate s rest → Cut m date operator rate s rest

@@ -7,13 +7,18 @@ use Rattle.book.specs.Lists.{total}
 use Rattle.tariff.specs.Meaning.{Meaning}
 use Rattle.book.specs.Members.{Member, Addition, weight_to}
 use Rattle.unit_prices.specs.Prices.{earlier}
-use Rattle.book.specs.Sharing.{object_contribution, due}
+use Rattle.book.specs.Sharing.{amount_divided, due}
 use Rattle.book.specs.declared.entries.RegisterEntry.{RegisterEntry}
 use Rattle.book.specs.declared.increase.Increase.{Increase}
 
 -- An increase adds its tranches to its operator, on its day and in its year index.
 abbrev pub addition_in : Increase → Addition
-addition_in i = record { operator = i.operator; date = i.date; index = i.index; tranches = i.tranches }
+addition_in i = record {
+  operator = i.operator;
+  date = i.date;
+  index = i.index;
+  tranches = i.tranches;
+}
 
 -- Two lines for each object that was installed earlier, one for each other.
 abbrev pub lines_of : ℕ → RegisterEntry → ℕ
@@ -22,9 +27,10 @@ lines_of date o = cond (earlier o.installed date) 2 1
 abbrev pub lines_billed : ℕ → List RegisterEntry → ℕ
 lines_billed date objects = total (lines_of date) objects
 
--- An amount has a credit line for each operator that weighs something.
+-- An amount above 0 has a credit line for each operator that weighs something.
 abbrev pub amount_lines : Meaning → ℕ → ℕ → List Member → ℕ
 amount_lines m index amount members = total (λ x. due amount (weight_to m index x.tranches)) members
 
 abbrev pub lines_shared : Meaning → Addition → List RegisterEntry → List Member → ℕ
-lines_shared m a objects members = total (λ o. amount_lines m a.index (object_contribution m a o) members) objects
+lines_shared m a objects members =
+    total (λ o. amount_lines m a.index (amount_divided m a o) members) objects

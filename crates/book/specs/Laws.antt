@@ -1,5 +1,6 @@
 -- The laws of a zone's life, over every sheet that keeps the tariff's limits.
---   HeldUnder              two amounts differ by less than a limit, and by nothing where there are no credit lines
+--   HeldUnder              two amounts differ by less than a limit, and by nothing where there are
+--                          no credit lines
 --   Accounted              what the tally's calls come to is what zone and tables hold
 --   EveryLifeAccounted     it holds at the start of every life and after each call
 --   EveryCutFair           the unit prices of a cut raise and of the whole one differ by little
@@ -21,8 +22,9 @@ pub record HeldUnder (limit : ℕ → ℕ) (lines x y : ℕ) : Type 0 where
   pub over : 0 < lines → x < y + limit lines
   pub under : 0 < lines → y < x + limit lines
 
--- The counted roll and register, operator by operator and object by object, and the totals are the tally's.
--- Contributed less all balances less unshared is, either way, under the limit for the credit lines.
+-- The counted roll and register, operator by operator and object by object, and the totals are the
+-- tally's. Contributed less all balances less unshared is, either way, under the limit for the
+-- credit lines.
 pub record Accounted (limit : ℕ → ℕ) (m : Meaning) (calls : List Made) (s : State) : Type 0 where
   pub members : counted_members s.figures s.tables ≡ (tallied m calls).members
   pub objects : counted_register s.figures s.tables ≡ (tallied m calls).objects
@@ -34,7 +36,8 @@ pub record Accounted (limit : ℕ → ℕ) (m : Meaning) (calls : List Made) (s 
 
 abbrev pub EveryLifeAccounted : (ℕ → ℕ) → Type 0
 EveryLifeAccounted limit =
-    (m : Meaning) → Lawful m → (calls : List Made) (s : State) → Life m calls s → Accounted limit m calls s
+    (m : Meaning) → Lawful m → (calls : List Made) (s : State) → Life m calls s →
+    Accounted limit m calls s
 
 -- x and y differ by at most n.
 pub record Apart (n x y : ℕ) : Type 0 where
@@ -44,13 +47,16 @@ pub record Apart (n x y : ℕ) : Type 0 where
 -- The unit that the whole shows for an object, and the units that its parts show for it together.
 abbrev pub ShownApart : ℕ → Nature → ℕ → ℕ → List Line → List (List Line) → Type 0
 ShownApart n nature operator object whole parts =
-    Apart n (unit_shown nature operator object whole) (total (unit_shown nature operator object) parts)
+    Apart n (unit_shown nature operator object whole)
+    (total (unit_shown nature operator object) parts)
 
--- However an accepted raise that bills is cut, for every object the unit prices of the parts together and that of the
--- whole differ by at most the limit for the number of parts, and so do the unit contributions.
+-- However an accepted raise that bills is cut, for every object the unit prices of the parts
+-- together and that of the whole differ by at most the limit for the number of parts, and so do the
+-- unit contributions.
 abbrev pub EveryCutFair : (ℕ → ℕ) → Type 0
 EveryCutFair limit =
-    (m : Meaning) → Lawful m → (calls : List Made) (s : State) → Life m calls s → (launch_date : ℕ) → s.phase ≡ launched launch_date →
+    (m : Meaning) → Lawful m → (calls : List Made) (s : State) → Life m calls s →
+    (launch_date : ℕ) → s.phase ≡ launched launch_date →
     (date operator rate : ℕ) (effect : Effect) → Accepts m s (raise date operator rate) effect →
     (parts : List (List Line)) → Cut m date operator rate s parts → (object : ℕ) →
     ShownApart (limit (length parts)) Charge operator object effect.lines parts ×

@@ -1,5 +1,6 @@
 -- Lives of a zone.
---   answer_to   what a state answers to a call with a strip of some places; none where its phase does not take the call
+--   answer_to   what a state answers to a call with a strip of some places; none where its phase
+--               does not take the call
 --   Life        the calls made, the newest first, and the state that they lead to
 use Rattle.std.specs.Prelude.{◌≡◌, ℕ, List, [], ◌∷◌, Some, None, Option}
 use Rattle.tariff.specs.Meaning.{Meaning}
@@ -11,7 +12,8 @@ use Rattle.book.specs.declared.entries.RegisterEntry.{RegisterEntry}
 use Rattle.book.specs.declared.figures.Figures.{Figures}
 use Rattle.book.specs.declared.event.Event.{Event}
 
--- A zone in preparation takes commitments and raises without charge; a launched one takes those that bill.
+-- A zone in preparation takes commitments and raises without charge; a launched one takes those
+-- that bill.
 abbrev pub answer_to_event : Meaning → Figures → Tables → ℕ → Event → Phase → Option Answer
 answer_to_event m f t places v preparing = Some (subscription f t v)
 answer_to_event m f t places v (launched date) = Some (billing m f date t places v)
@@ -51,8 +53,11 @@ made call answer = record { call = call; refused = refused answer }
 abbrev pub empty_state : Tables → State
 empty_state t = record { figures = no_figures; phase = preparing; tables = t }
 
--- A life goes on by any call that its phase takes, accepted or refused, with a strip of any number of places.
+-- A life goes on by any call that its phase takes, accepted or refused, with a strip of any number
+-- of places.
 pub data Life (m : Meaning) : List Made → State → Type 0 where
   begins : (tables : Tables) → Life m [] (empty_state tables)
-  goes_on : {calls : List Made} {s : State} {answer : Answer} (places : ℕ) (call : Call) → Life m calls s →
-      answer_to m s places call ≡ Some answer → Life m (made call answer ∷ calls) (state_after s answer)
+  goes_on : {calls : List Made} {s : State} {answer : Answer} (places : ℕ) (call : Call) →
+      Life m calls s →
+      answer_to m s places call ≡ Some answer →
+      Life m (made call answer ∷ calls) (state_after s answer)

@@ -16,12 +16,20 @@ nature_number Credit = 3
 -- The total of a line is its unit times its quantity.
 abbrev pub line : Nature → ℕ → ℕ → ℕ → ℕ → Line
 line nature operator object unit quantity =
-    record { nature = nature; operator = operator; object = object; unit = unit; quantity = quantity; total = unit * quantity }
+    record {
+      nature = nature;
+      operator = operator;
+      object = object;
+      unit = unit;
+      quantity = quantity;
+      total = unit * quantity;
+    }
 
 -- Whether a line is of a nature, for an operator and an object.
 abbrev pub shows : Nature → ℕ → ℕ → Line → Bool
 shows nature operator object l =
-    (nature_number l.nature == nature_number nature) && (l.operator == operator && l.object == object)
+    (nature_number l.nature == nature_number nature) &&
+    (l.operator == operator && l.object == object)
 
 abbrev pub unit_of : Option Line → ℕ
 unit_of None = 0

@@ -3,7 +3,8 @@
 --   rate_of        tranches of all years together
 --   weight_to      tranches by year weight, up to a year index
 --   present_rate   the rate that an operator has, 0 where it has none
---   Addition       what a commitment or raise adds: k tranches of an operator, on a day in a year index
+--   Addition       what a commitment or raise adds: k tranches of an operator, on a day in a year
+--                  index
 --   entered_roll, entered_members   the operators with such tranches added
 use Rattle.std.specs.Prelude.{ℕ, ◌+◌, ◌-◌, ◌*◌, List, [], ◌∷◌, take, replicate, Some, None, Option, nat_eq, slice_index, slice_set, find, map}
 use Rattle.tariff.specs.Meaning.{Meaning}
@@ -33,7 +34,8 @@ abbrev pub weighed : (ℕ → ℕ) → ℕ → List ℕ → ℕ
 weighed weight index [] = 0
 weighed weight index (t ∷ ts) = t * weight index + weighed weight (index + 1) ts
 
--- An operator's weight is the sum of its tranches times the weight of their year, up to a year index.
+-- An operator's weight is the sum of its tranches times the weight of their year, up to a year
+-- index.
 abbrev pub weight_to : Meaning → ℕ → List ℕ → ℕ
 weight_to m index tranches = weighed m.weight 0 (take (index + 1) tranches)
 
@@ -55,7 +57,8 @@ tranches_of operator members = tranches_found (member operator members)
 abbrev pub present_rate : ℕ → List Member → ℕ
 present_rate operator members = rate_of (tranches_of operator members)
 
--- What a commitment or raise adds: the operator, the day, the year index on that day, and the tranches.
+-- What a commitment or raise adds: the operator, the day, the year index on that day, and the
+-- tranches.
 pub record Addition : Type 0 where
   pub operator : ℕ
   pub date : ℕ
@@ -65,7 +68,12 @@ pub record Addition : Type 0 where
 -- An event adds the tranches by which its rate exceeds the present one.
 abbrev pub addition : ℕ → Event → List Member → Addition
 addition index v members =
-    record { operator = v.operator; date = v.date; index = index; tranches = v.rate - present_rate v.operator members }
+    record {
+      operator = v.operator;
+      date = v.date;
+      index = index;
+      tranches = v.rate - present_rate v.operator members;
+    }
 
 -- Tranches are added in the year index of their event.
 abbrev pub more_tranches : Addition → List ℕ → List ℕ
@@ -93,4 +101,5 @@ abbrev pub new_member : Addition → Member
 new_member a = record { operator = a.operator; tranches = first_tranches a; balance = 0 }
 
 abbrev pub entered_members : Addition → List Member → List Member
-entered_members a members = placed (λ x. x.operator) a.operator (member_subscribed a) (new_member a) members
+entered_members a members = placed (λ x. x.operator) a.operator (member_subscribed a)
+    (new_member a) members

@@ -1,11 +1,12 @@
 -- How contributions are shared among the operators that the event finds.
 --   object_contribution   what an object contributes
---   amount_divided, share_count   the amount of an object that is divided, and how often a share of it counts
+--   amount_divided, share_count   the amount of an object that is divided, and how often a share of
+--                                 it counts
 --   serves                whether an amount and a weight are both above 0
 --   share, due            an operator's share of an object; 1 where it has one, else 0
 --   credits               the credit lines of a share-out
 --   moved_by              what a share-out moves: contributed, credited, unshared, credit lines
-use Rattle.std.specs.Prelude.{ℕ, zero, suc, ◌*◌, ◌≤◌, Bool, true, false, cond, List, [], ◌∷◌, ◌==◌, flat_map, length}
+use Rattle.std.specs.Prelude.{ℕ, zero, suc, ◌+◌, ◌*◌, ◌≤◌, Bool, true, false, cond, List, [], ◌∷◌, ◌==◌, flat_map, length}
 use Rattle.tariff.specs.Meaning.{Meaning}
 use Rattle.book.specs.Limits.{most_contributed, most_credited, most_credit_lines}
 use Rattle.book.specs.Lists.{total}
@@ -40,14 +41,16 @@ unit_share m amount weight whole = m.rounded (amount * weight) whole
 
 -- Where amount and weight are above 0 an operator gets its unit share, as often as it counts.
 abbrev pub share : Meaning → ℕ → ℕ → ℕ → ℕ → ℕ
-share m amount weight whole often = cond (serves amount weight) (unit_share m amount weight whole * often) 0
+share m amount weight whole often =
+    cond (serves amount weight) (unit_share m amount weight whole * often) 0
 
 abbrev pub due : ℕ → ℕ → ℕ
 due amount weight = cond (serves amount weight) 1 0
 
 -- The share of an operator of some tranches in an object, and whether it has one.
 abbrev pub share_of : Meaning → Addition → ℕ → RegisterEntry → List ℕ → ℕ
-share_of m a whole o tranches = share m (amount_divided m a o) (weight_to m a.index tranches) whole (share_count o)
+share_of m a whole o tranches =
+    share m (amount_divided m a o) (weight_to m a.index tranches) whole (share_count o)
 
 abbrev pub due_of : Meaning → Addition → RegisterEntry → List ℕ → ℕ
 due_of m a o tranches = due (amount_divided m a o) (weight_to m a.index tranches)
@@ -60,7 +63,9 @@ payout m a whole objects tranches = total (λ o. share_of m a whole o tranches) 
 abbrev pub credit : Meaning → Addition → ℕ → RegisterEntry → Member → List Line
 credit m a whole o x =
     cond (serves (amount_divided m a o) (weight_to m a.index x.tranches))
-    (line Credit x.operator o.object (unit_share m (amount_divided m a o) (weight_to m a.index x.tranches) whole) (share_count o) ∷ [])
+    (line Credit x.operator o.object
+    (unit_share m (amount_divided m a o) (weight_to m a.index x.tranches) whole)
+    (share_count o) ∷ [])
     []
 
 -- Each object in register order, and for it each operator in roll order.
@@ -73,13 +78,23 @@ abbrev pub left_unshared : Meaning → Addition → List RegisterEntry → List 
 left_unshared m a objects members =
     cond (whole_weight m a.index members == 0) (total (object_contribution m a) objects) 0
 
--- What a share-out moves: what is contributed, the lines' totals, what is unshared, and how many lines there are.
+-- What a share-out moves: what is contributed, the lines' totals, what is unshared, and how many
+-- lines there are.
 abbrev pub moved_by : Meaning → Addition → List RegisterEntry → List Member → Totals
 moved_by m a objects members = record {
   contributed = total (object_contribution m a) objects;
   credited = total (λ l. l.total) (credits m a objects members);
   unshared = left_unshared m a objects members;
   credit_lines = length (credits m a objects members);
+}
+
+-- Totals, and what is added to them.
+abbrev pub more_totals : Totals → Totals → Totals
+more_totals before moved = record {
+  contributed = before.contributed + moved.contributed;
+  credited = before.credited + moved.credited;
+  unshared = before.unshared + moved.unshared;
+  credit_lines = before.credit_lines + moved.credit_lines;
 }
 
 -- No share-out moves more than this.

@@ -44,20 +44,12 @@ object_noted o t = record t { objects = t.objects ++ o ∷ [] }
 
 -- A commitment or raise adds its tranches at index 0, or after the launch is kept as the event.
 abbrev pub event_noted : Event → Option ℕ → Tally → Tally
-event_noted v None t = record {
+event_noted v None t = record t {
   launch_date = None;
   event = None;
   members = entered_members (addition 0 v t.members) t.members;
-  objects = t.objects;
-  totals = t.totals;
 }
-event_noted v (Some date) t = record {
-  launch_date = Some date;
-  event = Some v;
-  members = t.members;
-  objects = t.objects;
-  totals = t.totals;
-}
+event_noted v (Some date) t = record t { launch_date = Some date; event = Some v }
 
 -- A member with an amount on its balance.
 abbrev pub member_credited : ℕ → Member → Member
@@ -65,25 +57,27 @@ member_credited amount x = record x { balance = x.balance + amount }
 
 abbrev pub credited_members : Meaning → Addition → List RegisterEntry → List Member → List Member
 credited_members m a objects members =
-    map (λ x. member_credited (payout m a (whole_weight m a.index members) objects x.tranches) x) members
+    map (λ x. member_credited (payout m a (whole_weight m a.index members) objects x.tranches) x)
+    members
 
--- Each object's contribution adds to contributed, and to unshared if nobody weighs anything; each share adds to
--- credited, and 1 to credit lines.
+-- Each object's contribution adds to contributed, and to unshared if nobody weighs anything; each
+-- share adds to credited, and 1 to credit lines.
 abbrev pub shared_totals : Meaning → Addition → List RegisterEntry → List Member → Totals → Totals
 shared_totals m a objects members before = record {
   contributed = before.contributed + total (object_contribution m a) objects;
-  credited = before.credited + total (λ o. total (λ x. share_of m a (whole_weight m a.index members) o x.tranches) members) objects;
+  credited = before.credited + total
+      (λ o. total (λ x. share_of m a (whole_weight m a.index members) o x.tranches) members)
+      objects;
   unshared = before.unshared + left_unshared m a objects members;
-  credit_lines = before.credit_lines + total (λ o. total (λ x. due_of m a o x.tranches) members) objects;
+  credit_lines = before.credit_lines +
+      total (λ o. total (λ x. due_of m a o x.tranches) members) objects;
 }
 
 -- A share-out credits each member its shares; then the event's tranches enter at the event's index.
 abbrev pub settled : Meaning → Addition → Tally → Tally
-settled m a t = record {
-  launch_date = t.launch_date;
+settled m a t = record t {
   event = None;
   members = entered_members a (credited_members m a t.objects t.members);
-  objects = t.objects;
   totals = shared_totals m a t.objects t.members t.totals;
 }
 
@@ -93,11 +87,13 @@ share_out_noted m (Some date) None t = t
 share_out_noted m (Some date) (Some v) t = settled m (addition (index_of date v.date) v t.members) t
 
 abbrev pub noted : Meaning → Call → Tally → Tally
-noted m (commitment date operator rate) t = event_noted (commitment_event date operator rate) t.launch_date t
+noted m (commitment date operator rate) t =
+    event_noted (commitment_event date operator rate) t.launch_date t
 noted m (raise date operator rate) t = event_noted (raise_event date operator rate) t.launch_date t
 noted m (launch date) t = launch_noted date t
 noted m (opening date object dwellings) t = object_noted (opened date object dwellings) t
-noted m (cabling date object third dwellings) t = object_noted (cabled date object third dwellings) t
+noted m (cabling date object third dwellings) t =
+    object_noted (cabled date object third dwellings) t
 noted m share_out t = share_out_noted m t.launch_date t.event t
 
 -- A refusal leaves it.

@@ -1,5 +1,6 @@
 -- Where a zone and its tables stand, and what an answer to a call makes of them.
---   Tables   the roll and the register that are lent to each call; a zone counts entries from their start
+--   Tables   the roll and the register that are lent to each call; a zone counts entries from their
+--            start
 --   Phase    whether a zone is in preparation, launched on a day, or has an event's levy open
 --   State    the zone's figures, its phase, and the tables
 --   Effect   the state that an accepted call leads to, and the lines that it writes
@@ -60,7 +61,8 @@ abbrev pub refused : Answer → Bool
 refused (Ok effect) = false
 refused (Err refusal) = true
 
--- A refusal leaves zone, tables and strip as they were. Lines fill the strip from its start; later places keep their content.
+-- A refusal leaves zone, tables and strip as they were. Lines fill the strip from its start; later
+-- places keep their content.
 abbrev pub state_after : State → Answer → State
 state_after s (Ok effect) = effect.state
 state_after s (Err refusal) = s

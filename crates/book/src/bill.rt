@@ -12,7 +12,7 @@ use crate::increase::Increase;
 use crate::lines::{Line, Nature};
 use crate::sound_entries::{Object, Objects, Operators};
 use crate::weights::rate_of;
-use tariff::tariff::Tariff;
+use tariff::questions::Tariff;
 
 // The line of a unit and a quantity.
 pub(crate) fn line_of(nature: Nature, operator: u32, object: u32, unit: u64, quantity: u32) -> Line

@@ -21,7 +21,7 @@ use crate::zone_checks::{
 };
 use refusal::Refusal;
 use std::slice;
-use tariff::tariff::Tariff;
+use tariff::questions::Tariff;
 
 impl PreparedZone {
     // A launch.

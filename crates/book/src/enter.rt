@@ -8,7 +8,7 @@ ghost use Rattle.checks.specs.Numbers.{bad_rate};
 
 use crate::entries::RollEntry;
 use crate::increase::Increase;
-use tariff::tariff::YEAR_INDICES;
+use tariff::questions::YEAR_INDICES;
 
 // Adds the tranches to their operator, or places a newcomer after the counted entries, and gives the new count. The count
 // stands beside the roll, since a newcomer's place is the one after it.

@@ -1,6 +1,6 @@
 // The entries of the two tables that are lent to each call.
 use tariff::kinds::Kind;
-use tariff::tariff::YEAR_INDICES;
+use tariff::questions::YEAR_INDICES;
 
 /// An operator on the roll. A counted entry outside the limits named here is refused by 1.
 #[derive(Clone, Copy, PartialEq, Eq, Debug)]

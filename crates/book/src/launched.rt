@@ -24,7 +24,7 @@ use crate::sound_entries::{Object, Objects, Operators};
 use crate::tables::Tables;
 use calendar::year_index;
 use tariff::kinds::Kind;
-use tariff::tariff::Tariff;
+use tariff::questions::Tariff;
 
 /// A launched zone with no levy open. It is moved from call to call.
 #[derive(Drop)]

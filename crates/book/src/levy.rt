@@ -18,7 +18,7 @@ use crate::share::settle;
 use crate::sound_entries::Objects;
 use crate::tables::Tables;
 use calendar::year_index;
-use tariff::tariff::Tariff;
+use tariff::questions::Tariff;
 
 /// An open levy: the launched zone that it goes back to, and the event that it keeps. It takes a share-out and nothing
 /// else. It has no `Drop`, so that no code can let it go: a levy may not lapse.

@@ -4,7 +4,7 @@ ghost use Rattle.book.specs.Limits.{most_operators, most_objects, most_index, ye
 ghost use Rattle.checks.specs.Numbers.{most_tranches, most_dwellings};
 
 use checks::numbers::{MOST_DWELLINGS, MOST_TRANCHES};
-use tariff::tariff::YEAR_INDICES;
+use tariff::questions::YEAR_INDICES;
 
 /// Operators that a roll can count.
 pub const MOST_OPERATORS: usize = 16;

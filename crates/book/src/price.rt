@@ -9,7 +9,7 @@ ghost use Rattle.book.specs.Sharing.{object_contribution};
 
 use crate::increase::Increase;
 use crate::sound_entries::Object;
-use tariff::tariff::Tariff;
+use tariff::questions::Tariff;
 use unit_prices::price::{unit_contribution, unit_price};
 
 impl<'a> Object<'a> {

@@ -18,8 +18,8 @@ use crate::increase::Increase;
 use crate::lines::{Line, Nature};
 use crate::sound_entries::{Object, Objects, Operators};
 use crate::weights::weight_to;
+use tariff::questions::Tariff;
 use tariff::quotient::Quotient;
-use tariff::tariff::Tariff;
 
 // Whether an amount and a weight are both above 0, so that a share is due.
 pub(crate) const fn is_due(amount: u64, weight: u64) -> bool

@@ -6,7 +6,7 @@ ghost use Rattle.refusal.specs.Checks.{passing};
 
 use crate::entries::RegisterEntry;
 use refusal::Refusal;
-use tariff::tariff::Tariff;
+use tariff::questions::Tariff;
 
 // A price for every object.
 pub(crate) fn check_prices<T: Tariff>(sheet: &T, objects: &[RegisterEntry]) -> Result<(), Refusal>

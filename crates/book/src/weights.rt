@@ -7,7 +7,7 @@ ghost use Rattle.book.specs.Members.{members_of, rate_of, weight_to, whole_weigh
 use crate::entries::RollEntry;
 use crate::increase::Increase;
 use crate::sound_entries::Operators;
-use tariff::tariff::{Tariff, YEAR_INDICES};
+use tariff::questions::{Tariff, YEAR_INDICES};
 
 // The tranches of all years together, whatever the array holds.
 pub(crate) fn rate_of(tranches: &[u32; YEAR_INDICES]) -> u64

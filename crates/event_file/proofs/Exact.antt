@@ -36,7 +36,12 @@ four_first [] h k = absurd (omega arith)
 four_first (a ∷ []) h k = absurd (omega arith)
 four_first (a ∷ b ∷ []) h k = absurd (omega arith)
 four_first (a ∷ b ∷ c ∷ []) h k = absurd (omega arith)
-four_first (a ∷ b ∷ c ∷ d ∷ xs) h k = ap (λ l. l ++ xs) (sym (four_again a b c d k.0 k.1.0 k.1.1.0 k.1.1.1.0))
+four_first (a ∷ b ∷ c ∷ d ∷ xs) h k =
+    let (first, after_first) = k in
+    let (second, after_second) = after_first in
+    let (third, after_third) = after_second in
+    let (fourth, later) = after_third in
+    ap (λ l. l ++ xs) (sym (four_again a b c d first second third fourth))
 
 -- the four bytes from a place on
 four_from : (bs : List ℕ) (i : ℕ) → i + 4 ≤ length bs → Bytes bs → drop i bs ≡ four_bytes (number_at (drop i bs) 0) ++ drop (i + 4) bs

@@ -7,7 +7,7 @@ use Rattle.std.proofs.lemmas.Bool.{and_parts, cases_eq, cases_lt, eqb-true, not-
 use Rattle.event_file.specs.Bytes.{Bytes}
 use Rattle.std.specs.List.{list_all}
 use Rattle.event_file.specs.Blocks.{check_of, entry_of, written_check}
-use Rattle.event_file.specs.Format.{Shown}
+use Rattle.event_file.specs.Format.{Shown, entry_bytes}
 use Rattle.event_file.specs.Entries.{Told, event, blank, bad_content, breaks_blank_rule, event_in, event_letter, is_blank, is_zero, letter_in, told, unknown_letter}
 use Rattle.event_file.specs.Reading.{blank_before, entry_told}
 use Rattle.event_file.specs.Laws.{SameEntries, Sound}
@@ -43,10 +43,17 @@ only_zeros after bs r =
     (blank_read (eqb (letter_in bs) 0) (event_letter (letter_in bs)) (not (is_blank bs)) after (bad_content bs) (event_in bs)
     (passed_all (unknown_letter bs) (breaks_blank_rule after bs) (not (eqb (letter_in bs) 0) && bad_content bs) (cond (eqb (letter_in bs) 0) blank (event (event_in bs))) blank r)))
 
+-- an entry that reads as an event is that event's bytes
+event_bytes : (x : Bool) (bs : List ℕ) (e : Shown) → Bytes bs → told x bs ≡ Ok (event e) → bs ≡ entry_bytes e
+event_bytes x bs e hb p =
+    let (rule_kept, writes) = only_its_bytes x bs e hb p in
+    let (within, bytes) = writes in
+    bytes
+
 -- entries that tell the same are the same bytes
 module _ (x y : Bool) (bs cs : List ℕ) (hb : Bytes bs) (hc : Bytes cs) where
   same_told_bytes : (t : Told) → told x bs ≡ Ok t → told y cs ≡ Ok t → bs ≡ cs
-  same_told_bytes (event e) p q = (only_its_bytes x bs e hb p).1.1 ∙ sym (only_its_bytes y cs e hc q).1.1
+  same_told_bytes (event e) p q = event_bytes x bs e hb p ∙ sym (event_bytes y cs e hc q)
   same_told_bytes blank p q = only_zeros x bs p ∙ sym (only_zeros y cs q)
 
   same_from : (r : Result Told Refusal) → told x bs ≡ r → is_ok r ≡ true → told x bs ≡ told y cs → bs ≡ cs

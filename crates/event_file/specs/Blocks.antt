@@ -13,7 +13,8 @@ use Rattle.event_file.specs.Bytes.{to_number}
 
 -- A file is a whole number of blocks of 512 bytes, and has at most 65,536 bytes.
 abbrev pub file_blocks : ℕ → Result ℕ Refusal
-file_blocks n = unless (first (((not (n % 512 == 0) || nat_lt 65536 n) ⇒ BadFileLength) ∷ [])) (n / 512)
+file_blocks n = unless (first (((not (n % 512 == 0) || nat_lt 65536 n) ⇒ BadFileLength) ∷ []))
+    (n / 512)
 
 -- The bytes as one number, modulo 65,521.
 abbrev pub check_of : List ℕ → ℕ

@@ -25,7 +25,8 @@ letter_in bs = slice_index bs 0
 
 -- four bytes from a place on, high byte first
 abbrev pub number_at : List ℕ → ℕ → ℕ
-number_at bs i = slice_index bs i * 16777216 + slice_index bs (i + 1) * 65536 + slice_index bs (i + 2) * 256 + slice_index bs (i + 3)
+number_at bs i = slice_index bs i * 16777216 + slice_index bs (i + 1) * 65536 +
+    slice_index bs (i + 2) * 256 + slice_index bs (i + 3)
 
 abbrev pub form_in : List ℕ → ℕ
 form_in bs = slice_index bs 13
@@ -61,10 +62,12 @@ filled_in_vain c n a = c == 76 && not (n == 0 && a == 0)
 
 -- The content is bad if the form, a number or the label is.
 abbrev pub bad_fields : ℕ → ℕ → ℕ → ℕ → List ℕ → Bool
-bad_fields c n a form l = nat_lt (most_form c) form || (filled_in_vain c n a || not (label_stands l))
+bad_fields c n a form l = nat_lt (most_form c) form ||
+    (filled_in_vain c n a || not (label_stands l))
 
 abbrev pub bad_content : List ℕ → Bool
-bad_content bs = bad_fields (letter_in bs) (number_at bs 5) (number_at bs 9) (form_in bs) (label_in bs)
+bad_content bs = bad_fields (letter_in bs) (number_at bs 5) (number_at bs 9) (form_in bs)
+    (label_in bs)
 
 -- The event of a letter, its numbers, its form and its label.
 abbrev pub event_of : ℕ → ℕ → ℕ → ℕ → ℕ → List ℕ → Shown
@@ -75,13 +78,16 @@ event_of c d n a form l =
     (cond (c == 83) (cabling d n a (form == 1) l) (launch d l))))
 
 abbrev pub event_in : List ℕ → Shown
-event_in bs = event_of (letter_in bs) (number_at bs 1) (number_at bs 5) (number_at bs 9) (form_in bs) (label_in bs)
+event_in bs = event_of (letter_in bs) (number_at bs 1) (number_at bs 5) (number_at bs 9)
+    (form_in bs) (label_in bs)
 
--- Why an entry with an event's letter is refused, where a blank stands before it in its block or not.
+-- Why an entry with an event's letter is refused, where a blank stands before it in its block or
+-- not.
 abbrev pub event_refusal : Bool → List ℕ → Option Refusal
 event_refusal after bs = first ((after ⇒ BlankRuleBroken) ∷ (bad_content bs ⇒ BadEntryContent) ∷ [])
 
--- What an entry tells, where a blank stands before it in its block or not: the first condition that is met refuses it.
+-- What an entry tells, where a blank stands before it in its block or not: the first condition that
+-- is met refuses it.
 abbrev pub told : Bool → List ℕ → Result Told Refusal
 told after bs =
     unless
@@ -119,7 +125,8 @@ letter_byte letter.Launch = 76
 
 -- The letter of a byte, or the refusal of a byte that is none.
 abbrev pub LetterOf : ℕ → Result Letter Refusal → Type 0
-LetterOf c r = MatchResult r (λ l. letter_byte l ≡ c) (λ x. (x ≡ UnknownLetter) × (event_letter c ≡ false))
+LetterOf c r = MatchResult r (λ l. letter_byte l ≡ c)
+    (λ x. (x ≡ UnknownLetter) × (event_letter c ≡ false))
 
 -- Fields that are those of an entry.
 pub record FieldsOf (bs : List ℕ) (f : Fields) : Type 0 where

@@ -2,7 +2,8 @@
 --   Shown         an event as a plain value, its label a list of bytes
 --   Within        the limits of an event that can be written
 --   entry_bytes   the bytes of an event
---   Writes        bytes that write an event: reading an event is this relation, from the bytes to the event
+--   Writes        bytes that write an event: reading an event is this relation, from the bytes to
+--                 the event
 --   label_stands  whether bytes can be a label: sixteen, each from 32 to 126
 use Rattle.std.specs.Prelude.{◌≡◌, ℕ, ◌/◌, ◌%◌, ◌^◌, ◌<◌, Bool, true, cond, ◌&&◌, List, [], ◌∷◌, ◌++◌, length, ◌==◌, nat_le}
 use Rattle.std.specs.List.{list_all}

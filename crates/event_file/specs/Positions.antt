@@ -1,4 +1,5 @@
--- How far a reader has come, as it counts for itself: a position is the number of entries passed, 17 to a block.
+-- How far a reader has come, as it counts for itself: a position is the number of entries passed,
+-- 17 to a block.
 --   places   the entries of all whole blocks
 --   left_at  what is left to read from a position on
 use Rattle.std.specs.Prelude.{ℕ, zero, suc, ◌+◌, ◌-◌, ◌*◌, ◌/◌, ◌%◌, cond, List, ◌++◌, length, Ok, Result, ◌==◌}
@@ -13,11 +14,13 @@ places bs = length bs / 512 * 17
 abbrev pub check_at : List ℕ → ℕ → Result Unit Refusal
 check_at b n = cond (n == 0) (block_check b) (Ok tt)
 
--- From a place of a block on, in a file of some blocks: the rest of the block and the blocks after it.
+-- From a place of a block on, in a file of some blocks: the rest of the block and the blocks after
+-- it.
 abbrev pub from_place : List ℕ → ℕ → ℕ → ℕ → List Item
 from_place bs blocks number zero = blocks_read bs number (blocks - number)
 from_place bs blocks number (suc place) =
-    entries_read (block_of bs number) number (suc place) (16 - place) ++ blocks_read bs (number + 1) (blocks - (number + 1))
+    entries_read (block_of bs number) number (suc place) (16 - place) ++
+    blocks_read bs (number + 1) (blocks - (number + 1))
 
 unfoldable pub left_at : List ℕ → ℕ → List Item
 left_at bs p = from_place bs (length bs / 512) (p / 17) (p % 17)

@@ -41,13 +41,15 @@ abbrev pub placed : ℕ → ℕ → Result Told Refusal → Item
 placed block entry (Ok t) = Ok (record { block = block; entry = entry; told = t })
 placed block entry (Err refusal) = Err (fault_at refusal block entry)
 
--- The next entries of a block, so many of them, in order. Blocks and places are counted from 1 where they are told.
+-- The next entries of a block, so many of them, in order. Blocks and places are counted from 1
+-- where they are told.
 abbrev pub entries_read : List ℕ → ℕ → ℕ → ℕ → List Item
 entries_read b number place zero = []
 entries_read b number place (suc more) =
     placed (number + 1) (place + 1) (entry_told b place) ∷ entries_read b number (place + 1) more
 
--- A file that fails as a whole, or a block that fails its check, gives its fault alone, and nothing is read after it.
+-- A file that fails as a whole, or a block that fails its check, gives its fault alone, and nothing
+-- is read after it.
 abbrev pub only_fault : Place → Refusal → List Item
 only_fault at refusal = Err (record { refusal = refusal; place = at }) ∷ []
 

@@ -1,5 +1,6 @@
 -- What an event file tells.
---   Telling       an event with its block and its place in the block, or a fault; a blank tells nothing
+--   Telling       an event with its block and its place in the block, or a fault; a blank tells
+--                 nothing
 --   left_to_tell  what is told by what is left to read, in order
 --   file_tells    all that a file tells
 use Rattle.std.specs.Prelude.{ℕ, List, [], ◌∷◌, Ok, Err, flat_map}

@@ -60,15 +60,21 @@ impl<'a> FileEvent<'a> {
 /// An entry with its block and its place in the block, both from 1. A blank tells of no event.
 #[derive(Clone, Copy, PartialEq, Eq, Debug)]
 pub struct Entry<'a> {
+    /// The block's number.
     pub block: usize,
+    /// The entry's number in its block.
     pub entry: usize,
+    /// What it tells; a blank tells nothing.
     pub event: Option<FileEvent<'a>>,
 }
 
 /// An event with the block and the place in the block of the entry that tells it, both from 1.
 #[derive(Clone, Copy, PartialEq, Eq, Debug)]
 pub struct PlacedEvent<'a> {
+    /// The block's number.
     pub block: usize,
+    /// The entry's number in its block.
     pub entry: usize,
+    /// What the entry tells.
     pub event: FileEvent<'a>,
 }

@@ -7,8 +7,11 @@ use refusal::Refusal;
 /// What is refused: the whole file, a whole block, or an entry of a block. Blocks and entries count from 1.
 #[derive(Clone, Copy, PartialEq, Eq, Debug)]
 pub enum Place {
+    /// The file as a whole.
     File,
+    /// A block, by its number.
     Block(usize),
+    /// An entry, by its block's number and its own in the block.
     Entry { block: usize, entry: usize },
 }
 
@@ -37,6 +40,8 @@ impl Place {
 /// A refusal, and where in a file it stands.
 #[derive(Clone, Copy, PartialEq, Eq, Debug)]
 pub struct Fault {
+    /// Why: 19 of a file, 20 of a block, 21 to 23 of an entry.
     pub refusal: Refusal,
+    /// Where.
     pub place: Place,
 }

@@ -59,14 +59,16 @@ label_text l = if list_all printable l then l else []
 abbrev pub event_text : Shown → List ℕ
 event_text e =
     letter_of e ++ (codes " date " ++ (decimal (date_of e) ++ (numbers_text e ++
-    (codes " form " ++ (decimal (form_of e) ++ (codes " label \"" ++ (label_text (label_of e) ++ codes "\"")))))))
+    (codes " form " ++ (decimal (form_of e) ++
+    (codes " label \"" ++ (label_text (label_of e) ++ codes "\"")))))))
 
 abbrev pub told_text : Told → List ℕ
 told_text (event e) = event_text e
 told_text blank = codes "blank"
 
 abbrev pub entry_line : ℕ → ℕ → Told → List ℕ
-entry_line b n t = codes "block " ++ (decimal b ++ (codes " entry " ++ (decimal n ++ (codes ": " ++ told_text t))))
+entry_line b n t = codes "block " ++
+    (decimal b ++ (codes " entry " ++ (decimal n ++ (codes ": " ++ told_text t))))
 
 abbrev pub place_text : Place → List ℕ
 place_text File = codes "file"
@@ -74,7 +76,8 @@ place_text (Block b) = codes "block " ++ decimal b
 place_text (Entry b n) = codes "block " ++ (decimal b ++ (codes " entry " ++ decimal n))
 
 abbrev pub fault_line : Fault → List ℕ
-fault_line f = place_text f.place ++ (codes ": refused " ++ (decimal (number_of f.refusal) ++ (codes ", " ++ sentence_of f.refusal)))
+fault_line f = place_text f.place ++
+    (codes ": refused " ++ (decimal (number_of f.refusal) ++ (codes ", " ++ sentence_of f.refusal)))
 
 abbrev pub line_text : Result events.Entry Fault → List ℕ
 line_text (Ok e) = entry_line e.block e.entry (shown e.event)

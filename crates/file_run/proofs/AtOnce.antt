@@ -21,7 +21,7 @@ use Rattle.file_run.specs.Taking.{strip_places, refusal_in, refusal_to, Leads}
 abbrev pub wide : Room
 wide = record { bill = strip_places; first = strip_places; credits = strip_places }
 
-same_refusal : (a : Answer) → settling.refusal_in (Some a) ≡ refusal_in (Some a)
+same_refusal : (a : Answer) → settling.answer_refusal (Some a) ≡ refusal_in (Some a)
 same_refusal (Ok effect) = refl
 same_refusal (Err refusal) = refl
 
@@ -45,16 +45,16 @@ module _ (m : Meaning) (zone : LaunchedZone) (t : Tables) (v : Event) (room : Ro
       omega (arith, product)
 
   -- it is refused as its call is
-  refused_as : settling.refusal_to m s v room ≡ refusal_to m s (call_for v)
+  refused_as : settling.event_refusal m s v room ≡ refusal_to m s (call_for v)
   refused_as =
-      ap (settling.refusal_to m s v) same ∙
-      ap (λ b. cond b (Some StripTooShort) (settling.refusal_in (billed_as m s v wide))) (le-ltb strip_places (most_lines s) enough) ∙
-      ap settling.refusal_in billed ∙ same_refusal bill ∙ sym (ap refusal_in billed)
+      ap (settling.event_refusal m s v) same ∙
+      ap (λ b. cond b (Some StripTooShort) (settling.answer_refusal (billed_as m s v wide))) (le-ltb strip_places (most_lines s) enough) ∙
+      ap settling.answer_refusal billed ∙ same_refusal bill ∙ sym (ap refusal_in billed)
 
-  pub leads_on : (after : State) → None ≡ settling.refusal_to m s v room → after ≡ lived m s (settling.steps_for v room) → Leads m s (call_for v) None after
+  pub leads_on : (after : State) → None ≡ settling.event_refusal m s v room → after ≡ lived m s (settling.event_steps v room) → Leads m s (call_for v) None after
   leads_on after taken done = record {
     turned_down = sym (taken ∙ refused_as);
-    leads_to = done ∙ ap (λ r. lived m s (settling.steps_for v r)) same ∙ tried_again m (next s (answer_at m s (call_for v on strip_places))) strip_places;
+    leads_to = done ∙ ap (λ r. lived m s (settling.event_steps v r)) same ∙ tried_again m (next s (answer_at m s (call_for v on strip_places))) strip_places;
   }
 
   -- a refusal changes nothing
@@ -62,7 +62,7 @@ module _ (m : Meaning) (zone : LaunchedZone) (t : Tables) (v : Event) (room : Ro
   stays (Ok effect) refusal is = let z : ◌≡◌ {A = ℕ} 0 1 = cc in absurd (omega arith)
   stays (Err no') refusal is = refl
 
-  pub leads_nowhere : (kept : LaunchedZone) (u : Tables) (refusal : Refusal) → Some refusal ≡ settling.refusal_to m s v room → kept ≡ zone → u ≡ t →
+  pub leads_nowhere : (kept : LaunchedZone) (u : Tables) (refusal : Refusal) → Some refusal ≡ settling.event_refusal m s v room → kept ≡ zone → u ≡ t →
       Leads m s (call_for v) (Some refusal) (launched_on kept u)
   leads_nowhere kept u refusal turned is held = record {
     turned_down = sym (turned ∙ refused_as);

@@ -39,7 +39,8 @@ abbrev pub bare : Fault → ShownNotice
 bare fault = record { fault = fault; label = [] }
 
 abbrev pub labelled : ℕ → ℕ → Shown → Refusal → ShownNotice
-labelled block entry e refusal = record { fault = fault_at refusal block entry; label = without_end_blanks (label_of e) }
+labelled block entry e refusal =
+    record { fault = fault_at refusal block entry; label = without_end_blanks (label_of e) }
 
 abbrev pub notice_of : ℕ → ℕ → Shown → Option Refusal → List ShownNotice
 notice_of block entry e None = []
@@ -50,7 +51,8 @@ abbrev pub notices : Meaning → State → List Telling → List ShownNotice
 notices m s [] = []
 notices m s (told_fault fault ∷ more) = bare fault ∷ notices m s more
 notices m s (told_event block entry e ∷ more) =
-    notice_of block entry e (refusal_to m s (call_of e)) ++ notices m (lived m s (steps_for (call_of e))) more
+    notice_of block entry e (refusal_to m s (call_of e)) ++
+    notices m (lived m s (steps_for (call_of e))) more
 
 abbrev pub telling_steps : Telling → List Step
 telling_steps (told_event block entry e) = steps_for (call_of e)
@@ -88,9 +90,12 @@ Closed preparing = Unit {0}
 Closed (launched date) = Unit {0}
 Closed (levied date event) = ⊥
 
--- A run is a life: the calls of the file, accepted or refused, lead from an empty zone to its ending, where the accounts hold
--- and what is held is under one micro-euro for each credit line, either way.
+-- A run is a life: the calls of the file, accepted or refused, lead from an empty zone to its
+-- ending, where the accounts hold and what is held is under one micro-euro for each credit line,
+-- either way.
 pub record RunsAsLife (m : Meaning) (t : Tables) (bs : List ℕ) : Type 0 where
   pub life : Life m (calls_made m t bs) (ending m t bs)
   pub accounted : Accounted (λ lines. lines) m (calls_made m t bs) (ending m t bs)
-  pub held : HeldUnder (λ lines. lines) (ending m t bs).figures.totals.credit_lines (ending m t bs).figures.totals.contributed (paid_out (ending m t bs))
+  pub held : HeldUnder (λ lines. lines)
+      (ending m t bs).figures.totals.credit_lines (ending m t bs).figures.totals.contributed
+      (paid_out (ending m t bs))

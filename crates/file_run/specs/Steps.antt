@@ -20,11 +20,13 @@ abbrev pub noticed : Result (Option (Unit {0})) Notice → List ShownNotice
 noticed (Ok taken) = []
 noticed (Err notice) = shown_notice notice ∷ []
 
--- The refusal with its block and entry, and the event's label without its end blanks, as every label prints.
+-- The refusal with its block and entry, and the event's label without its end blanks, as every
+-- label prints.
 abbrev pub NoticeOf : RefusedEvent → Notice → Type 0
 NoticeOf back notice =
     list_all printable (label_of (shown_event back.placed.event)) ≡ true →
-    shown_notice notice ≡ labelled back.placed.block back.placed.entry (shown_event back.placed.event) back.refusal
+    shown_notice notice ≡ labelled back.placed.block back.placed.entry
+    (shown_event back.placed.event) back.refusal
 
 -- A step takes one of what is left to read, unless nothing is.
 abbrev pub Goes : List Item → Result (Option (Unit {0})) Notice → Type 0

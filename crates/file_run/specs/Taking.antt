@@ -2,7 +2,8 @@
 --   call_of      the call that an event asks for
 --   steps_for    a call, and the share-out that ends the levy it may open
 --   refusal_to   why a zone turns a call down, if it does
---   Leads        what a call comes to: its refusal, if it is refused, and the state that it leads to
+--   Leads        what a call comes to: its refusal, if it is refused, and the state that it leads
+--                to
 use Rattle.std.specs.Prelude.{◌≡◌, ℕ, List, [], ◌∷◌, Some, None, Ok, Err, Option}
 use Rattle.refusal.specs.declared.Refusal.{Refusal}
 use Rattle.refusal.specs.declared.Refusal.TheVariants.{OutOfTurn}
@@ -24,11 +25,13 @@ call_of (format.launch date label) = launch date
 abbrev pub strip_places : ℕ
 strip_places = 1024
 
--- Each levy is shared out at once: a share-out is tried after every call, and only an open levy takes it.
+-- Each levy is shared out at once: a share-out is tried after every call, and only an open levy
+-- takes it.
 abbrev pub steps_for : Call → List Step
 steps_for call = call on strip_places ∷ share_out on strip_places ∷ []
 
--- A call that the zone does not take is out of turn: an object before the launch, or a second launch.
+-- A call that the zone does not take is out of turn: an object before the launch, or a second
+-- launch.
 abbrev pub refusal_in : Option Answer → Option Refusal
 refusal_in None = Some OutOfTurn
 refusal_in (Some (Ok effect)) = None
@@ -37,6 +40,7 @@ refusal_in (Some (Err refusal)) = Some refusal
 abbrev pub refusal_to : Meaning → State → Call → Option Refusal
 refusal_to m s call = refusal_in (answer_at m s (call on strip_places))
 
-pub record Leads (m : Meaning) (s : State) (call : Call) (refusal : Option Refusal) (after : State) : Type 0 where
+pub record Leads (m : Meaning) (s : State) (call : Call) (refusal : Option Refusal)
+    (after : State) : Type 0 where
   pub turned_down : refusal_to m s call ≡ refusal
   pub leads_to : after ≡ lived m s (steps_for call)

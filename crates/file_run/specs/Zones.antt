@@ -1,6 +1,7 @@
 -- The zone of a run, with its tables, as a state of a life.
 --   state_of   the state that the books of a run stand for
---   ComesTo    a call comes to a result: the zone that it leads to, or the refusal and the zone as it was
+--   ComesTo    a call comes to a result: the zone that it leads to, or the refusal and the zone as
+--              it was
 use Rattle.std.specs.Prelude.{◌≡◌, Some, None, Ok, Err, Option, Result}
 use Rattle.refusal.specs.declared.Refusal.{Refusal}
 use Rattle.tariff.specs.Meaning.{Meaning}
@@ -33,11 +34,14 @@ abbrev pub AnsweredAs : PlacedEvent → Option Refusal → Result (Unit {0}) Ref
 AnsweredAs placed refusal (Ok taken) = refusal ≡ None
 AnsweredAs placed refusal (Err back) = (refusal ≡ Some back.refusal) × (back.placed ≡ placed)
 
--- A call comes to this result, with these tables after it, by what a zone that it leads to and one that it leaves stand for.
-abbrev pub ComesTo : {Z Y : Type 0} → (Z → Tables → State) → (Y → Tables → State) → Meaning → State → Call → Tables → Result Z (Refused Y) → Type 0
+-- A call comes to this result, with these tables after it, by what a zone that it leads to and one
+-- that it leaves stand for.
+abbrev pub ComesTo : {Z Y : Type 0} → (Z → Tables → State) → (Y → Tables → State) → Meaning →
+    State → Call → Tables → Result Z (Refused Y) → Type 0
 ComesTo led left m s call t (Ok zone) = Leads m s call None (led zone t)
 ComesTo led left m s call t (Err back) = Leads m s call (Some back.refusal) (left back.kept t)
 
 -- A launched zone stays launched, whatever the call.
-abbrev pub StaysLaunched : Meaning → State → Call → Tables → Result LaunchedZone (Refused LaunchedZone) → Type 0
+abbrev pub StaysLaunched : Meaning → State → Call → Tables →
+    Result LaunchedZone (Refused LaunchedZone) → Type 0
 StaysLaunched m s call t r = ComesTo launched_on launched_on m s call t r

@@ -18,7 +18,7 @@ use book::outcome::Refused;
 use book::prepared::PreparedZone;
 use event_file::event::PlacedEvent;
 use std::mem;
-use tariff::tariff::Tariff;
+use tariff::questions::Tariff;
 
 // The zone of a run between two events, and the ledger that its calls are lent.
 #[derive(Drop)]

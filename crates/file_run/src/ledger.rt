@@ -20,7 +20,7 @@ use book::outcome::Refused;
 use book::prepared::PreparedZone;
 use event_file::event::FileEvent;
 use refusal::Refusal;
-use tariff::tariff::Tariff;
+use tariff::questions::Tariff;
 
 // A share-out among 16 operators for 64 objects has at most as many lines.
 pub(crate) const STRIP_PLACES: usize = 1024;

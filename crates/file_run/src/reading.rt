@@ -11,7 +11,7 @@ use crate::notice::Notice;
 use event_file::event::{Entry, PlacedEvent};
 use event_file::reader::Reader;
 use std::alloc::{AllocError, Global};
-use tariff::tariff::Tariff;
+use tariff::questions::Tariff;
 
 // A longest file has 128 blocks of 17 entries, and each is refused at most once. There is room for all from the start, so
 // that want of memory stops a run before anything is read.

@@ -11,7 +11,7 @@ use book::entries::{RegisterEntry, RollEntry};
 use book::figures::Figures;
 use money::signed::SignedMoney;
 use std::alloc::{AllocError, Global};
-use tariff::tariff::Tariff;
+use tariff::questions::Tariff;
 
 /// The places of the roll of a run.
 pub const ROLL_PLACES: usize = 16;

@@ -3,8 +3,9 @@ use book::entries::RegisterEntry;
 use book::event::Event;
 use series::{Dated, IndexNumber};
 use sheet_parts::given::Prices;
-use tariff::tariff::YEAR_INDICES;
+use tariff::questions::YEAR_INDICES;
 
+/// Which sheet the calls below are made on.
 #[derive(Clone, Copy)]
 pub enum Choice {
     Flat,
@@ -43,6 +44,7 @@ pub enum Call {
     Installation(RegisterEntry),
 }
 
+/// What a line of a script asks for.
 #[derive(Clone, Copy)]
 pub enum Instruction {
     Life,

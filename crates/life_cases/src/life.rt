@@ -8,7 +8,7 @@ use sheets::dated::DatedSheet;
 use sheets::flat::FlatSheet;
 use sheets::indexed::IndexedSheet;
 use std::alloc::{AllocError, Global};
-use tariff::tariff::YEAR_INDICES;
+use tariff::questions::YEAR_INDICES;
 
 // The prices that a life begins with, in micro-euros.
 const PRICES: Prices = Prices {

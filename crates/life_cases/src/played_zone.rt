@@ -11,13 +11,14 @@ use book::prepared::PreparedZone;
 use refusal::Refusal;
 use std::mem;
 use tariff::kinds::Kind;
-use tariff::tariff::Tariff;
+use tariff::questions::Tariff;
 
 // One more than a zone can count.
 const ROLL_PLACES: usize = 17;
 
 const REGISTER_PLACES: usize = 70;
 
+/// Places of a strip that a call other than a share-out is lent at most.
 pub const STRIP_PLACES: usize = 1_200;
 
 /// In preparation or launched. Each levy is shared out at once, so there is no third case.
@@ -47,6 +48,7 @@ pub enum Outcome {
     },
 }
 
+/// A zone with its tables, and how many places of tables and strips its calls are lent.
 #[derive(Drop)]
 pub struct PlayedZone {
     pub zone: ZoneState,

@@ -5,7 +5,7 @@ use book::event::{Change, Event};
 use series::{Dated, IndexNumber};
 use sheet_parts::given::Prices;
 use tariff::kinds::Kind;
-use tariff::tariff::YEAR_INDICES;
+use tariff::questions::YEAR_INDICES;
 
 // What a line says by its words.
 pub(crate) fn instruction_in(words: &[&str]) -> Option<Instruction> {

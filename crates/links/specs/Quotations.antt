@@ -1,5 +1,6 @@
 -- What a link or an extra fibre costs on a sheet, and when an order is refused.
---   basis_of         ab initio, or ex post with the sheet's coefficient; none where a coefficient is wanted and missing
+--   basis_of         ab initio, or ex post with the sheet's coefficient; none where a coefficient
+--                    is wanted and missing
 --   checks           the conditions that refuse an order, in their order
 --   link_quotation   the answer for a link
 --   fibre_quotation  the answer for an extra fibre on one
@@ -58,7 +59,8 @@ abbrev pub BasisLimits : Basis → Type 0
 BasisLimits AbInitio = Unit {0}
 BasisLimits (ExPost c) = CoefficientLimits c
 
--- What an order that no check refuses is priced by: its basis, and its row and column in the tables.
+-- What an order that no check refuses is priced by: its basis, and its row and column in the
+-- tables.
 abbrev pub cell_of : Meaning → Order → Cell
 cell_of m o = record {
   basis = unwrap_or (basis_of m o) AbInitio;

@@ -2,7 +2,8 @@
 --   row_of          the row of a length, the first of the nine whose end it does not pass
 --   initial         a link ordered ab initio, by 1 to 6 fibres
 --   reference       a link's reference price, which the ex post coefficient multiplies
---   extra           an extra fibre, by the fibres first ordered: 1, 2, 3, 4, then five and more alike
+--   extra           an extra fibre, by the fibres first ordered: 1, 2, 3, 4, then five and more
+--                   alike
 --   price_at        a table's price in a row and column, in micro-euros
 use Rattle.std.specs.Prelude.{ℕ, ◌+◌, ◌-◌, ◌*◌, cond, not, List, [], ◌∷◌, Result, nat_le, slice_index, slice_index_or}
 use Rattle.calendar.specs.Days.{within}

@@ -9,9 +9,13 @@ use std::fmt;
 /// priced.
 #[derive(Clone, Copy, PartialEq, Eq, Debug)]
 pub struct Order {
+    /// The day of the order.
     pub ordered: u32,
+    /// The PM's service date, where it is known.
     pub service: Option<u32>,
+    /// The link's length.
     pub metres: u32,
+    /// The fibres ordered, or first ordered.
     pub fibres: u32,
 }
 

@@ -8,8 +8,8 @@ use crate::quotation::{Basis, Cell, Quotation};
 use crate::tables::{EXTRA, INITIAL, REFERENCE, column_of, price_at, row_of};
 use checks::numbers::check_date;
 use refusal::Refusal;
+use tariff::questions::Tariff;
 use tariff::quotient::Quotient;
-use tariff::tariff::Tariff;
 
 /// The price of a link, or the first check that refuses it: `NoDate` where a date is not real, `NoCoefficient` where it is
 /// ex post and the sheet has none, `MetresOutOfRange` and `FibresOutOfRange` outside the tables.

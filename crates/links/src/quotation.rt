@@ -10,14 +10,18 @@ use tariff::kinds::Coefficient;
 /// `Option<Coefficient>`, whose `None` would not say what its absence means, nor have a text of its own.
 #[derive(Clone, Copy, PartialEq, Eq, Debug)]
 pub enum Basis {
+    /// Built for the order.
     AbInitio,
+    /// In service before it: the reference price is multiplied by this.
     ExPost(Coefficient),
 }
 
 /// A price in micro-euros, and how it came about.
 #[derive(Clone, Copy, PartialEq, Eq, Debug)]
 pub struct Quotation {
+    /// How the price came about.
     pub basis: Basis,
+    /// Micro-euros.
     pub price: u64,
 }
 

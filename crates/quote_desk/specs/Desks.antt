@@ -1,4 +1,5 @@
--- What a desk answers: it reads lines one by one and remembers the sheet chosen and the series read so far.
+-- What a desk answers: it reads lines one by one and remembers the sheet chosen and the series read
+-- so far.
 --   DeskState     the sheet chosen, and the rows of each series in the order read
 --   priced        the price of what is asked for, on a sheet's meaning
 --   quotation_on  the same on the sheet chosen, made of the series read so far
@@ -78,7 +79,8 @@ on_flat enquiry =
     (λ _. priced (flat desk_prices desk_terms) enquiry)
 
 -- On the indexed sheet, unless what it is made of is refused.
-abbrev pub on_indexed : (wages consumer : List (Dated IndexNumber)) → Enquiry → Result Quotation Refusal
+abbrev pub on_indexed : (wages consumer : List (Dated IndexNumber)) → Enquiry →
+    Result Quotation Refusal
 on_indexed wages consumer enquiry =
     then_do
     (making

@@ -15,7 +15,7 @@ use sheets::dated::DatedSheet;
 use sheets::flat::FlatSheet;
 use sheets::indexed::IndexedSheet;
 use std::alloc::{AllocError, Global};
-use tariff::tariff::{Tariff, YEAR_INDICES};
+use tariff::questions::{Tariff, YEAR_INDICES};
 
 // The network's first prices per tranche and dwelling, in micro-euros.
 const PRICES: Prices = Prices {
@@ -56,7 +56,8 @@ impl Desk {
     /// finds no memory is turned down, and then nothing changes either.
     pub fn take(&mut self, bytes: &[u8]) -> Result<Option<Answer>, AllocError>
         ensures answer { IfOk result (λ a. a ≡ answer_to (desk_state self.old) bytes.now) }
-        ensures after { OnOk result (desk_state self.new ≡ state_after (desk_state self.old) bytes.now) }
+        ensures after { OnOk result
+            (desk_state self.new ≡ state_after (desk_state self.old) bytes.now) }
         ensures kept { MatchResult result
             (λ a. is_some a ≡ true → desk_state self.new ≡ desk_state self.old)
             (λ _. (desk_state self.new ≡ desk_state self.old) × AddsRow (request_in bytes.now)) }

@@ -11,15 +11,20 @@ use std::fmt;
 /// What a line is answered: a price, a refusal of what it asks, or why it cannot be read.
 #[derive(Clone, Copy, PartialEq, Eq, Debug)]
 pub enum Answer {
+    /// The price of what the line asks.
     Priced(Enquiry, Quotation),
+    /// Why what the line asks has none.
     Refused(Enquiry, Refusal),
+    /// Why the line cannot be read.
     Unread(Unreadable),
 }
 
 /// An answer with the number of its line, counted from 1.
 #[derive(Clone, Copy, PartialEq, Eq, Debug)]
 pub struct Reply {
+    /// The line's number.
     pub line: u64,
+    /// What it is answered.
     pub answer: Answer,
 }
 

@@ -4,7 +4,8 @@ use Rattle.refusal.specs.declared.Refusal.{Refusal}
 use Rattle.refusal.specs.declared.Refusal.TheVariants.{BadTables, NoDate, BeforeLastDate, IndexTooHigh, NoOperator, RateOutOfRange, AlreadyOnRoll, NotOnRoll, RateNotRaised, RollFull, ObjectUnusable, DwellingsOutOfRange, RegisterFull, NoPrice, NoCoefficient, StripTooShort, MetresOutOfRange, FibresOutOfRange, BadFileLength, BadBlockCheck, UnknownLetter, BlankRuleBroken, BadEntryContent, OutOfTurn, BadSheet}
 
 abbrev pub sentence_of : Refusal → List ℕ
-sentence_of BadTables = codes "a table is too short, an entry is outside its limits or repeated, or a total is too large"
+sentence_of BadTables =
+    codes "a table is too short, an entry is outside its limits or repeated, or a total is too large"
 sentence_of NoDate = codes "a date is not a calendar day from 20080101 to 20991231"
 sentence_of BeforeLastDate = codes "the date is before the zone's last date"
 sentence_of IndexTooHigh = codes "the date is more than 40 calendar years into the zone's life"
@@ -28,4 +29,5 @@ sentence_of UnknownLetter = codes "the entry's letter is unknown"
 sentence_of BlankRuleBroken = codes "a blank is not all zero, or an entry follows a blank"
 sentence_of BadEntryContent = codes "the form, a field that must be zero, or the label is wrong"
 sentence_of OutOfTurn = codes "an object before the launch, or a second launch"
-sentence_of BadSheet = codes "a sheet's value or date is outside its limits, or its dates do not rise"
+sentence_of BadSheet =
+    codes "a sheet's value or date is outside its limits, or its dates do not rise"

@@ -61,7 +61,8 @@ fills last beyond = not (empty last) && empty beyond
 abbrev pub number_named : List ℕ → Result ℕ Unreadable
 number_named w = ok_or (number w) NoNumber
 
--- An amount, or that the word has the form of one and is too large, or that it has not even the form.
+-- An amount, or that the word has the form of one and is too large, or that it has not even the
+-- form.
 abbrev pub amount_named : List ℕ → Result ℕ Unreadable
 amount_named w = ok_or (amount w) (cond (has_amount_form w) LargeAmount NoAmount)
 

@@ -16,5 +16,6 @@ reason_text UnknownWord = codes "a line begins with link, fibre, sheet, wages, c
 reason_text WordCount = codes "the line has too few or too many words"
 reason_text NoNumber = codes "a date or number is not one to nine digits"
 reason_text NoAmount = codes "a price is not euros with a point and six decimals"
-reason_text LargeAmount = codes "a price is above 4294.967295 euros, or has more than nine digits before its point"
+reason_text LargeAmount = codes
+    "a price is above 4294.967295 euros, or has more than nine digits before its point"
 reason_text UnknownSheet = codes "the sheet is not flat, indexed or dated"

@@ -12,22 +12,29 @@ use std::fmt;
 /// What is ordered: a link, or an extra fibre on one. Its text is `LINK` or `FIBRE`.
 #[derive(Clone, Copy, PartialEq, Eq, Debug)]
 pub enum Item {
+    /// A link.
     Link,
+    /// An extra fibre on a link.
     Fibre,
 }
 
 /// What a price is asked for: an item, and the order for it.
 #[derive(Clone, Copy, PartialEq, Eq, Debug)]
 pub struct Enquiry {
+    /// What is priced.
     pub item: Item,
+    /// For which order.
     pub order: Order,
 }
 
 /// Which of the three sheets prices what is asked for.
 #[derive(Clone, Copy, PartialEq, Eq, Debug)]
 pub enum Choice {
+    /// The flat sheet.
     Flat,
+    /// The indexed sheet.
     Indexed,
+    /// The dated sheet.
     Dated,
 }
 

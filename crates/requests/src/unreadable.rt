@@ -7,11 +7,17 @@ use std::fmt;
 /// Why a line cannot be read. Its text is the reason in words.
 #[derive(Clone, Copy, PartialEq, Eq, Debug)]
 pub enum Unreadable {
+    /// Its first word is none that a line begins with.
     UnknownWord,
+    /// It has too few or too many words.
     WordCount,
+    /// A date or number is not one to nine digits.
     NoNumber,
+    /// A price is not euros with a point and six decimals.
     NoAmount,
+    /// A price is larger than can be held.
     LargeAmount,
+    /// It names no sheet.
     UnknownSheet,
 }
 

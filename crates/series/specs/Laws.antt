@@ -12,13 +12,15 @@ use Rattle.series.specs.Lookups.{last_value}
 abbrev pub newest : {V : Type 0} → List (Dated V) → Option V
 newest rows = last_value (λ _. true) rows
 
--- From the date of a row up to the day before the next row's date, the answer is the value of that row.
+-- From the date of a row up to the day before the next row's date, the answer is the value of that
+-- row.
 abbrev pub SteadyOn : {V : Type 0} → List (Dated V) → ℕ → Option V → Type 0
 SteadyOn {V} rows day answer =
     (above below : List (Dated V)) (row next : Dated V) → rows ≡ above ++ (row ∷ (next ∷ below))
     → row.date ≤ day → day < next.date → answer ≡ Some row.value
 
--- From the day after the date of a row up to the next row's date, the answer is the value of that row.
+-- From the day after the date of a row up to the next row's date, the answer is the value of that
+-- row.
 abbrev pub SteadyBefore : {V : Type 0} → List (Dated V) → ℕ → Option V → Type 0
 SteadyBefore {V} rows day answer =
     (above below : List (Dated V)) (row next : Dated V) → rows ≡ above ++ (row ∷ (next ∷ below))

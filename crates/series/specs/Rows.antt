@@ -26,7 +26,8 @@ rising (row ∷ (next ∷ rows)) = nat_lt row.date next.date && rising (next ∷
 abbrev pub within_limits : {V : Type 0} → (V → Bool) → List (Dated V) → Bool
 within_limits fits rows = list_all (λ row. fits row.value) rows
 
--- Rows make a series if there are not too many, their dates are real and rise, and their values keep their limits.
+-- Rows make a series if there are not too many, their dates are real and rise, and their values
+-- keep their limits.
 abbrev pub sound : {V : Type 0} → (V → Bool) → List (Dated V) → Bool
 sound fits rows =
     nat_le (length rows) most_rows && (real rows && (rising rows && within_limits fits rows))

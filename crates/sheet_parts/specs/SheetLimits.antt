@@ -8,7 +8,8 @@ use Rattle.tariff.specs.declared.kinds.Kind.{Kind}
 use Rattle.tariff.specs.declared.kinds.Coefficient.{Coefficient}
 use Rattle.sheet_parts.specs.declared.given.Terms.{Terms}
 
-module _ (price : Kind → ℕ → Option ℕ) (coefficient : ℕ → ℕ → Option Coefficient) (rounded : ℕ → ℕ → ℕ) (terms : Terms) where
+module _ (price : Kind → ℕ → Option ℕ) (coefficient : ℕ → ℕ → Option Coefficient)
+    (rounded : ℕ → ℕ → ℕ) (terms : Terms) where
   -- whatever the dates are, and at every fraction
   pub record PartsFit : Type 0 where
     pub prices : (kind : Kind) (installed : ℕ) → Answered PriceLimits (price kind installed)

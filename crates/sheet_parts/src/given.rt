@@ -4,13 +4,16 @@ ghost use Rattle.sheet_parts.specs.Given.{price_of, price_fits, prices_in_limits
 
 use series::Limited;
 use tariff::kinds::Kind;
-use tariff::tariff::{MOST_PRICE, MOST_WEIGHT, WHOLE, YEAR_INDICES};
+use tariff::questions::{MOST_PRICE, MOST_WEIGHT, WHOLE, YEAR_INDICES};
 
 /// The price per tranche and dwelling of each kind, in micro-euros.
 #[derive(Clone, Copy, PartialEq, Eq, Debug)]
 pub struct Prices {
+    /// Of a dwelling that a PM covers, 1 to 500,000,000.
     pub covered: u32,
+    /// Of a connectable one, 1 to 500,000,000.
     pub connectable: u32,
+    /// Of one connectable through a third party's cabling, 1 to 500,000,000.
     pub third: u32,
 }
 
@@ -18,7 +21,9 @@ pub struct Prices {
 /// of its subscription.
 #[derive(Clone, Copy, PartialEq, Eq, Debug)]
 pub struct Terms {
+    /// Hundredths, 0 to 100.
     pub contribution: u32,
+    /// Of each year index from 0 on, 0 to 200.
     pub weights: [u32; YEAR_INDICES],
 }
 

@@ -16,7 +16,9 @@ const DENOMINATOR: u32 = 1_200;
 /// coefficient for good, or none.
 #[derive(Clone, Copy, PartialEq, Eq, Debug)]
 pub struct Row {
+    /// After each whole year, in hundredths, from 0 years on.
     pub years: [u16; ROW_YEARS],
+    /// Beyond the last of them, if anything holds there.
     pub beyond: Option<Coefficient>,
 }
 

@@ -11,8 +11,8 @@ use sheet_parts::given::{Prices, Terms};
 use sheet_parts::rounding::rounded_five_up;
 use sheet_parts::row::Row;
 use tariff::kinds::{Coefficient, Kind};
+use tariff::questions::Tariff;
 use tariff::quotient::Quotient;
-use tariff::tariff::Tariff;
 
 /// A sheet of price records, on the common row, rounding five-up. It has no price before the first record.
 #[derive(PartialEq, Eq, Debug, Drop)]

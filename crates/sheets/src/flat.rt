@@ -9,8 +9,8 @@ use sheet_parts::given::{Prices, Terms};
 use sheet_parts::rounding::rounded_five_down;
 use sheet_parts::row::Row;
 use tariff::kinds::{Coefficient, Kind};
+use tariff::questions::Tariff;
 use tariff::quotient::Quotient;
-use tariff::tariff::Tariff;
 
 /// A sheet of three prices, on the common row, rounding five-down.
 #[derive(Clone, Copy, PartialEq, Eq, Debug)]

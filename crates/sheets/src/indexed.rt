@@ -14,8 +14,8 @@ use sheet_parts::given::{Prices, Terms};
 use sheet_parts::rounding::rounded_five_down;
 use sheet_parts::row::Row;
 use tariff::kinds::{Coefficient, Kind};
+use tariff::questions::{MOST_COEFFICIENT, Tariff};
 use tariff::quotient::Quotient;
-use tariff::tariff::{MOST_COEFFICIENT, Tariff};
 
 /// A sheet of three prices, on the common row times the smaller rise of two series of index numbers, rounding five-down.
 #[derive(PartialEq, Eq, Debug, Drop)]

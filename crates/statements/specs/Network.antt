@@ -1,5 +1,6 @@
 -- What the network's statement is made with.
---   network_sheet    the dated sheet of the network's own price records, contribution 15, every weight 100
+--   network_sheet    the dated sheet of the network's own price records, contribution 15, every
+--                    weight 100
 --   empty_tables     16 places for operators and 64 for objects
 use Rattle.std.specs.Prelude.{replicate}
 use Rattle.tariff.specs.Meaning.{Meaning}

@@ -12,7 +12,7 @@ use sheet_parts::given::Terms;
 use sheets::dated::DatedSheet;
 use sheets::network::network_records;
 use std::alloc::{AllocError, Global};
-use tariff::tariff::YEAR_INDICES;
+use tariff::questions::YEAR_INDICES;
 
 // A contribution of 15 hundredths, and tranches that weigh alike.
 const TERMS: Terms = Terms {

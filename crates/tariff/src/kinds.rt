@@ -14,6 +14,8 @@ pub enum Kind {
 /// An unreduced fraction by which a price is multiplied.
 #[derive(Clone, Copy, PartialEq, Eq, Debug)]
 pub struct Coefficient {
+    /// 0 to 480,000,000, and at most 4 times the denominator.
     pub numerator: u32,
+    /// 1 to 240,000,000.
     pub denominator: u32,
 }

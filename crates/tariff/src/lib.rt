@@ -2,5 +2,5 @@
 #![tactic(auto)]
 
 pub mod kinds;
+pub mod questions;
 pub mod quotient;
-pub mod tariff;

@@ -11,6 +11,8 @@ use Rattle.calendar.specs.Days.{is_date, within}
 use Rattle.tariff.specs.Meaning.{Meaning, Lawful, Answered, CoefficientLimits}
 use Rattle.tariff.specs.declared.kinds.Kind.{Kind}
 use Rattle.tariff.specs.declared.kinds.Coefficient.{Coefficient}
+use Rattle.tariff.specs.Bounds.{most_denominator, most_price}
+use Rattle.unit_prices.specs.Limits.{most_unit_contribution}
 use Rattle.unit_prices.specs.Prices.{price_at, coefficient_at, earlier, unit_price, unit_contribution}
 use Rattle.unit_prices.specs.Refusals.{unit_price_checks, unit_contribution_checks}
 use Rattle.unit_prices.proofs.Bounds.{price_most, coefficient_limits}
@@ -51,10 +53,10 @@ through m kind installed date k p is =
     }
 
 module _ (m : Meaning) (law : Lawful m) (kind : Kind) (installed date k p : ℕ) (is : unless (first (unit_contribution_checks m kind installed date k)) (price_at m kind installed * k) ≡ Ok p) where
-  pub plain_fits : p ≤ 10000000000
+  pub plain_fits : p ≤ most_unit_contribution
   plain_fits =
       let past = through m kind installed date k p is in
-      let a : price_at m kind installed * k ≤ 500000000 * 20 = mul-le-mul (price_most m law kind installed past.real) past.few in
+      let a : price_at m kind installed * k ≤ most_price * 20 = mul-le-mul (price_most m law kind installed past.real) past.few in
       let e = past.priced in omega arith
 
   pub found_limits : (c : Coefficient) → m.coefficient installed date ≡ Some c → CoefficientLimits c
@@ -96,7 +98,7 @@ no_tranches p k few is =
     (and_cases (leb 1 k) (leb k 20) (not-true (within 1 k 20) is))
 
 -- nothing is rounded to nothing
-nothing : (m : Meaning) → Lawful m → (n d : ℕ) → n ≡ 0 → 0 < d → d ≤ 240000000 → m.rounded n d ≡ 0
+nothing : (m : Meaning) → Lawful m → (n d : ℕ) → n ≡ 0 → 0 < d → d ≤ most_denominator → m.rounded n d ≡ 0
 nothing m law n d is pos small =
     let near = law.near n d (omega arith) pos small in
     let over = near.over in

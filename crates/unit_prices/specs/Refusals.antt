@@ -1,4 +1,5 @@
--- When a unit price or a unit contribution is refused: the conditions in their order, with the refusal that each gives.
+-- When a unit price or a unit contribution is refused: the conditions in their order, with the
+-- refusal that each gives.
 --   unit_contribution_checks   dates, tranches and price
 --   unit_price_checks          these, and the coefficient
 use Rattle.std.specs.Prelude.{ℕ, ◌&&◌, List, [], ◌∷◌, ◌++◌, is_none}

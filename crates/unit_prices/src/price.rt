@@ -8,8 +8,8 @@ ghost use Rattle.unit_prices.specs.Refusals.{unit_price_checks, unit_contributio
 use checks::numbers::{check_date, check_rate};
 use refusal::Refusal;
 use tariff::kinds::Kind;
+use tariff::questions::{Tariff, WHOLE};
 use tariff::quotient::Quotient;
-use tariff::tariff::{Tariff, WHOLE};
 
 /// What a dwelling of a kind costs for some tranches, in micro-euros: installed before the date, price × tranches × coefficient,
 /// rounded by the sheet; else price × tranches.

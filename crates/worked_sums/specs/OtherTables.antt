@@ -2,6 +2,7 @@
 -- event was billed on.
 use Rattle.std.specs.Prelude.{◌≡◌, ℕ, ◌+◌, List, [], ◌∷◌, replicate, Some, Option, map}
 use Rattle.tariff.specs.declared.kinds.Kind.TheVariants.{Covered}
+use Rattle.book.specs.Limits.{most_amount}
 use Rattle.book.specs.Zone.{State, with_totals}
 use Rattle.book.specs.Calls.{raise, opening, share_out}
 use Rattle.book.specs.Runs.{◌on◌, answer_at, said, lived}
@@ -74,7 +75,7 @@ later_shared = lived sheet_up (on_roll raise_levy later_roll) (share_out on 2 �
 
 -- The limit of an amount.
 abbrev pub most : ℕ
-most = 4000000000000000000
+most = most_amount
 
 pub record TablesLimited : Type 0 where
   -- fit; number 0; a number twice; no tranche; 21 tranches; the largest balance; one above it;

@@ -14,7 +14,7 @@ mod tests {
     use sheet_parts::given::{Prices, Terms};
     use sheets::flat::FlatSheet;
     use std::test::Fail;
-    use tariff::tariff::YEAR_INDICES;
+    use tariff::questions::YEAR_INDICES;
 
     // A contribution of 15 hundredths, shared by weights that fall over the first five years.
     fn falling_sheet() -> Result<FlatSheet, Refusal> {

@@ -8,7 +8,7 @@ use Rattle.at_once.proofs.settled.bill_and_share_out.Goals as goal
 
 pub returns-then-lines_at_most-credits-clause-life : goal.returns-then-lines_at_most-credits-clause-life
 returns-then-lines_at_most-credits-clause-life g c =
-    event_lives (g.T.Tariff.meaning c.args.sheet.now) (g.T.Tariff.lawful c.args.sheet.now) c.args.zone (tables c.args.roll.now c.args.register.now) c.args.event c.args.first (strips c.args.bill.now c.args.credits.now)
+    λ room. event_lives (g.T.Tariff.meaning c.args.sheet.now) (g.T.Tariff.lawful c.args.sheet.now) c.args.zone (tables c.args.roll.now c.args.register.now) c.args.event c.args.first (strips c.args.bill.now c.args.credits.now)
 
 pub returns-then-lines_at_most-credits-clause-longest : goal.returns-then-lines_at_most-credits-clause-longest
 returns-then-lines_at_most-credits-clause-longest g c = few_lines c.args.zone (tables c.args.roll.now c.args.register.now)
@@ -18,7 +18,7 @@ returns-then-lines_at_most-credits-clause-laws g c = whole_life_laws
 
 pub returns-in_err-accepted-clause-life : goal.returns-in_err-accepted-clause-life
 returns-in_err-accepted-clause-life g c =
-    event_lives (g.T.Tariff.meaning c.args.sheet.now) (g.T.Tariff.lawful c.args.sheet.now) c.args.zone (tables c.args.roll.now c.args.register.now) c.args.event c.args.first (strips c.args.bill.now c.args.credits.now)
+    λ room. event_lives (g.T.Tariff.meaning c.args.sheet.now) (g.T.Tariff.lawful c.args.sheet.now) c.args.zone (tables c.args.roll.now c.args.register.now) c.args.event c.args.first (strips c.args.bill.now c.args.credits.now)
 
 pub returns-in_err-accepted-clause-longest : goal.returns-in_err-accepted-clause-longest
 returns-in_err-accepted-clause-longest g c = few_lines c.args.zone (tables c.args.roll.now c.args.register.now)
@@ -28,14 +28,14 @@ returns-in_err-accepted-clause-laws g c = whole_life_laws
 
 pub returns-in-Ok-clause-life : goal.returns-in-Ok-clause-life
 returns-in-Ok-clause-life g c =
-    event_lives (g.T.Tariff.meaning c.args.sheet.now) (g.T.Tariff.lawful c.args.sheet.now) c.args.zone (tables c.args.roll.now c.args.register.now) c.args.event c.args.first (strips c.args.bill.now c.args.credits.now)
+    λ room. event_lives (g.T.Tariff.meaning c.args.sheet.now) (g.T.Tariff.lawful c.args.sheet.now) c.args.zone (tables c.args.roll.now c.args.register.now) c.args.event c.args.first (strips c.args.bill.now c.args.credits.now)
 
 pub returns-in-Ok-clause-longest : goal.returns-in-Ok-clause-longest
 returns-in-Ok-clause-longest g c = few_lines c.args.zone (tables c.args.roll.now c.args.register.now)
 
 pub returns-clause-life : goal.returns-clause-life
 returns-clause-life g c =
-    event_lives (g.T.Tariff.meaning c.args.sheet.now) (g.T.Tariff.lawful c.args.sheet.now) c.args.zone (tables c.args.roll.now c.args.register.now) c.args.event c.args.first (strips c.args.bill.now c.args.credits.now)
+    λ room. event_lives (g.T.Tariff.meaning c.args.sheet.now) (g.T.Tariff.lawful c.args.sheet.now) c.args.zone (tables c.args.roll.now c.args.register.now) c.args.event c.args.first (strips c.args.bill.now c.args.credits.now)
 
 pub returns-clause-longest : goal.returns-clause-longest
 returns-clause-longest g c = few_lines c.args.zone (tables c.args.roll.now c.args.register.now)

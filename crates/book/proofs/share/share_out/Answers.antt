@@ -104,17 +104,17 @@ returns g c =
     let all = outer_done c.loop-item.invariant c.loop-item-test.false (omega (arith, ap length e, c.requires.room)) in
     record {
       moved =
-          let credited = all.4 ∙ ap sums e in
-          let unshared = unshared_is m a whole c.args.objects.items.now c.args.roll.now is _ _ all.3 c.unshared_of.ensures.value in
-          let number = all.0 ∙ ap length e in
-          (λ i. record { contributed = all.3 i; credited = credited i; unshared = unshared i; credit_lines = number i });
-      strip = all.1 ∙ ap (λ ls. written ls c.args.strip.now) e;
-      roll = all.2 ∙ entries_are m a whole c.args.objects.items.now c.args.roll.now is;
+          let credited = all.credited ∙ ap sums e in
+          let unshared = unshared_is m a whole c.args.objects.items.now c.args.roll.now is _ _ all.contributed c.unshared_of.ensures.value in
+          let number = all.number ∙ ap length e in
+          (λ i. record { contributed = all.contributed i; credited = credited i; unshared = unshared i; credit_lines = number i });
+      strip = all.strip_then ∙ ap (λ ls. written ls c.args.strip.now) e;
+      roll = all.roll_then ∙ entries_are m a whole c.args.objects.items.now c.args.roll.now is;
       most =
           let given = c.loop-item.invariant.given_most in
           let sum = c.loop-item.invariant.sum_most in
           let count = lines_counted.credited m a c.args.objects.items.now (members_of c.args.roll.now) in
-          let number = all.0 ∙ ap length e in
+          let number = all.number ∙ ap length e in
           let members = length-map c.args.roll.now member_of in
           let few : length (members_of c.args.roll.now) ≤ 16 = omega (arith, members, c.requires.operators) in
           let product : length (members_of c.args.roll.now) * length c.args.objects.items.now ≤ 16 * 1024 = mul-le-mul few c.args.objects.few in

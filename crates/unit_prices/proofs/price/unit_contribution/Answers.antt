@@ -1,5 +1,6 @@
 use Rattle.std.proofs.Common.{◌≡◌, ◌*◌, ◌≤◌, [], sym, ◌∙◌, arith}
 use Rattle.std.proofs.lemmas.Result.{err_from_is_err_and}
+use Rattle.unit_prices.specs.Limits.{most_unit_contribution}
 use Rattle.unit_prices.specs.Prices.{price_at, unit_contribution}
 use Rattle.unit_prices.specs.Refusals.{unit_contribution_checks}
 use Rattle.unit_prices.proofs.Bounds.{part_fits, part_most}
@@ -8,7 +9,7 @@ use Rattle.unit_prices.proofs.price.unit_contribution.Goals as goal
 use Rattle.unit_prices.proofs.price.unit_contribution.Goals.{In_ok-price}
 use Rattle.unit_prices.proofs.price.unit_contribution.Given as given
 
-fits : (g : given.Over) (c : In_ok-price g) → c.in_ok-price.price ≤ 10000000000
+fits : (g : given.Over) (c : In_ok-price g) → c.in_ok-price.price ≤ most_unit_contribution
 fits g c =
     let a = c.args in
     plain_fits (g.T.Tariff.meaning a.sheet.now) (g.T.Tariff.lawful a.sheet.now) a.kind a.installed a.date a.tranches _

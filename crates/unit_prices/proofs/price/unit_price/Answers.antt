@@ -1,13 +1,14 @@
 use Rattle.std.proofs.Common.{◌≡◌, ◌*◌, ◌≤◌, sym, ◌∙◌, arith}
 use Rattle.std.proofs.lemmas.Result.{err_from_is_err_and}
 use Rattle.tariff.specs.Meaning.{CoefficientLimits}
+use Rattle.unit_prices.specs.Limits.{most_unit_contribution}
 use Rattle.unit_prices.proofs.Bounds.{numerator_fits, rated_most}
 use Rattle.unit_prices.proofs.Checked.{plain_fits, found_limits, price_refused}
 use Rattle.unit_prices.proofs.price.unit_price.Goals as goal
 use Rattle.unit_prices.proofs.price.unit_price.Goals.{In_ok-plain, In-Some}
 use Rattle.unit_prices.proofs.price.unit_price.Given as given
 
-fits : (g : given.Over) (c : In_ok-plain g) → c.in_ok-plain.plain ≤ 10000000000
+fits : (g : given.Over) (c : In_ok-plain g) → c.in_ok-plain.plain ≤ most_unit_contribution
 fits g c =
     let a = c.args in
     plain_fits (g.T.Tariff.meaning a.sheet.now) (g.T.Tariff.lawful a.sheet.now) a.kind a.installed a.date a.tranches _
