@@ -11,7 +11,7 @@ use crate::limits::MOST_AMOUNT;
 use crate::weights::rate_of;
 use calendar::is_date;
 use checks::numbers::{MOST_DWELLINGS, MOST_TRANCHES};
-use checks::tables::{TableEntry, is_bad_table};
+use checks::tables::{TableEntry, is_bad_long_table, is_bad_table};
 use refusal::Refusal;
 
 // The tables that a call is lent. A zone's figures stay beside them: they are the zone's own.
@@ -71,7 +71,7 @@ fn are_faulty(figures: &Figures, lent: Tables<'_>) -> bool
     ensures value { result ≡ one_of (table_faults figures.now (tables_in lent.entry)) }
 {
     is_bad_table(lent.roll, figures.operators)
-        || is_bad_table(lent.register, figures.objects)
+        || is_bad_long_table(lent.register, figures.objects)
         || are_huge(figures)
 }
 

@@ -1,1 +1,3 @@
 pub mod GoodTables
+pub mod Rising
+pub mod Remainders

@@ -1,5 +1,5 @@
 // The check of a table: whether it has a place for each counted entry, and those are lawful.
-ghost use Rattle.std.specs.Prelude.{◌≡◌, ℕ, Bool, nat_eq};
+ghost use Rattle.std.specs.Prelude.{◌≡◌, ℕ, Bool, true, false, IfSome, is_none, length, nat_eq, nat_lt, take};
 ghost use Rattle.std.specs.List.{list_any};
 ghost use Rattle.checks.specs.Tables.{is_bad_table, has_number, repeats};
 
@@ -19,15 +19,24 @@ pub trait TableEntry {
 }
 
 /// Whether a table is shorter than its count, or a counted entry is outside its limits or repeats a
-/// number.
+/// number. For a table of a few entries: numbers that do not rise are compared each with each.
 pub fn is_bad_table<E: TableEntry>(entries: &[E], counted: usize) -> bool
     ensures value { result ≡ is_bad_table E.numbered E.faulty counted entries.now }
 {
-    if entries.len() < counted {
+    let Some(entries) = counted_entries(entries, counted) else {
         return true;
-    }
-    let entries = &entries[..counted];
-    any_faulty(entries) || repeats_number(entries)
+    };
+    any_faulty(entries) || (!rise(entries) && any_equal(entries))
+}
+
+/// The same of a table of many entries: of numbers that do not rise, only those are compared that leave one remainder.
+pub fn is_bad_long_table<E: TableEntry>(entries: &[E], counted: usize) -> bool
+    ensures value { result ≡ is_bad_table E.numbered E.faulty counted entries.now }
+{
+    let Some(entries) = counted_entries(entries, counted) else {
+        return true;
+    };
+    any_faulty(entries) || (!rise(entries) && any_equal_of_many(entries))
 }
 
 /// Whether some entry has a number.
@@ -37,6 +46,14 @@ pub fn has_number<E: TableEntry>(entries: &[E], number: u32) -> bool
     entries.iter().any(|entry| entry.number() == number)
 }
 
+// The counted entries, if the table has a place for each.
+fn counted_entries<E>(entries: &[E], counted: usize) -> Option<&[E]>
+    ensures none { is_none result ≡ nat_lt (length entries.now) counted }
+    ensures value { IfSome result (λ found. found.now ≡ take counted entries.now) }
+{
+    entries.get(..counted)
+}
+
 // Whether some entry is outside its limits.
 fn any_faulty<E: TableEntry>(entries: &[E]) -> bool
     ensures value { result ≡ list_any E.faulty entries.now }
@@ -44,8 +61,21 @@ fn any_faulty<E: TableEntry>(entries: &[E]) -> bool
     entries.iter().any(|entry| entry.is_faulty())
 }
 
-// Whether two entries have one number.
-fn repeats_number<E: TableEntry>(entries: &[E]) -> bool
+// Whether each number is above the one before it, so that none is there twice.
+fn rise<E: TableEntry>(entries: &[E]) -> bool
+    ensures once { result ≡ true → repeats E.numbered entries.now ≡ false }
+{
+    entries.is_sorted_by(|entry, next| is_below(entry, next))
+}
+
+fn is_below<E: TableEntry>(entry: &E, next: &E) -> bool
+    ensures value { result ≡ nat_lt (E.numbered entry.now) (E.numbered next.now) }
+{
+    entry.number() < next.number()
+}
+
+// Whether two entries have one number: compares each with all later ones.
+fn any_equal<E: TableEntry>(entries: &[E]) -> bool
     ensures value { result ≡ repeats E.numbered entries.now }
 {
     let mut rest = entries;
@@ -54,6 +84,27 @@ fn repeats_number<E: TableEntry>(entries: &[E]) -> bool
             return true;
         }
         rest = later;
+    }
+    false
+}
+
+// By how much numbers are divided: a prime, so that numbers in steps of some size leave many remainders.
+const DIVISOR: u32 = 2039;
+
+// The same of many entries: from the last one on, notes which remainders were left, and compares a number with all later
+// ones only where its remainder is there already. The row of notes has a place for each remainder, however many entries
+// there are.
+fn any_equal_of_many<E: TableEntry>(entries: &[E]) -> bool
+    ensures value { result ≡ repeats E.numbered entries.now }
+{
+    let mut left = [false; DIVISOR as usize];
+    for place in (0..entries.len()).rev() {
+        let number = entries[place].number();
+        let remainder = (number % DIVISOR) as usize;
+        if left[remainder] && has_number(&entries[place + 1..], number) {
+            return true;
+        }
+        left[remainder] = true;
     }
     false
 }
