@@ -1,1 +1,2 @@
 pub mod Interpolation
+pub mod Decimals

@@ -5,22 +5,25 @@ ghost use Rattle.sheet_parts.specs.Rounding.{five_down, five_up, seventh_decimal
 
 use tariff::quotient::Quotient;
 
-// The first decimal of a fraction of micro-euros, the seventh of the euro.
-fn seventh_decimal(amount: Quotient) -> u64
-    ensures value { result ≡ seventh_decimal amount.numerator amount.denominator }
+// Whether the first decimal of a fraction of micro-euros, the seventh of the euro, is a number or more. It is compared and
+// not worked out, which would take a second division.
+fn reaches(amount: Quotient, least: u64) -> bool
+    requires { least < 10 }
+    ensures value { result ≡ nat_le least (seventh_decimal amount.numerator amount.denominator) }
 {
     let divisor = u64::from(amount.denominator);
-    amount.numerator % divisor * 10 / divisor
+    least * divisor <= amount.numerator % divisor * 10
 }
 
 // The next whole number from a seventh decimal on, else the last one.
 fn up_from(least: u64, amount: Quotient) -> u64
-    requires { 0 < least }
+    requires some { 0 < least }
+    requires decimal { least < 10 }
     ensures value { result ≡ up_if (nat_le least) amount.numerator amount.denominator }
     ensures near { Near amount.numerator amount.denominator result }
 {
     let whole = amount.numerator / u64::from(amount.denominator);
-    if seventh_decimal(amount) >= least {
+    if reaches(amount, least) {
         whole + 1
     } else {
         whole
