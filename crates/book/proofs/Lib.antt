@@ -21,6 +21,7 @@ pub mod Rolls
 pub mod Living
 pub mod Soundness
 pub mod Weighing
+pub mod YearSums
 pub mod Writing
 pub mod Charging
 pub mod Subscribing

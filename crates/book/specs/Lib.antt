@@ -17,4 +17,5 @@ pub mod Runs
 pub mod Coarse
 pub mod Passing
 pub mod Promises
+pub mod Weights
 pub mod Increases

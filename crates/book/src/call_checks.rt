@@ -12,7 +12,7 @@ use crate::increase::Increase;
 use crate::launched::LaunchedZone;
 use crate::levy::OpenLevy;
 use crate::prepared::PreparedZone;
-use crate::share::lines_shared;
+use crate::share::check_room;
 use crate::sheet_checks::{check_prices, check_sheet};
 use crate::sound_entries::{Objects, Operators};
 use crate::tables::{Tables, check_tables};
@@ -111,7 +111,6 @@ impl OpenLevy {
         };
         check_prices(sheet, objects.items)?;
         let increase = Increase::of_event(&self.event, self.index(), operators.items);
-        let lines = lines_shared(sheet, increase, objects, operators);
-        check_strip(places, lines)
+        check_room(sheet, increase, objects, operators, places)
     }
 }

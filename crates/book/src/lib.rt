@@ -21,4 +21,5 @@ mod sheet_checks;
 mod sound_entries;
 mod tables;
 mod weights;
+mod year_weights;
 mod zone_checks;

@@ -45,6 +45,7 @@ impl<'a> Object<'a> {
     }
 
     // What of it goes to the earlier operators; 0 where the question is refused, likewise.
+    #[inline(always)]
     pub(crate) fn unit_contribution<T: Tariff>(self, sheet: &T, increase: Increase) -> u64
         ensures value { let o = self.entry.item.now in
             let m = T.meaning sheet.now in

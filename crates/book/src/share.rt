@@ -1,14 +1,18 @@
 // How a share-out credits the operators of a roll.
-ghost use Rattle.std.specs.Prelude.{◌≡◌, ◌≤◌, false, length, if◌then◌else◌, nat_eq, take};
+ghost use Rattle.std.specs.Prelude.{◌≡◌, ◌<◌, ◌≤◌, false, length, if◌then◌else◌, nat_eq, nat_lt, take};
 ghost use Rattle.std.specs.List.{list_any};
-ghost use Rattle.book.specs.Limits.{most_operators};
+ghost use Rattle.refusal.specs.Checks.{passing};
+ghost use Rattle.tariff.specs.Meaning.{Meaning};
+ghost use Rattle.checks.specs.Numbers.{most_tranches};
+ghost use Rattle.book.specs.Limits.{most_operators, most_weight};
 ghost use Rattle.checks.specs.Tables.{one_of};
 ghost use Rattle.book.specs.Lists.{written};
-ghost use Rattle.book.specs.Members.{members_of, entered_roll};
-ghost use Rattle.book.specs.Sharing.{serves, credits, moved_by, IsShareOutsMost};
+ghost use Rattle.book.specs.Members.{members_of, rate_of, weight_to, entered_roll};
+ghost use Rattle.book.specs.Sharing.{serves, due, credits, moved_by, IsShareOutsMost};
 ghost use Rattle.book.specs.Answers.{credited_roll};
-ghost use Rattle.book.specs.Increases.{addition_in, amount_lines, lines_shared};
-ghost use Rattle.book.specs.Refusals.{entry_faults};
+ghost use Rattle.book.specs.Increases.{addition_in, contributing, weighing, lines_shared};
+ghost use Rattle.book.specs.Refusals.{entry_faults, strip_checks};
+ghost use Rattle.book.specs.Weights.{AreAsked};
 
 use crate::bill::line_of;
 use crate::enter::enter;
@@ -17,15 +21,25 @@ use crate::figures::Totals;
 use crate::increase::Increase;
 use crate::lines::{Line, Nature};
 use crate::sound_entries::{Object, Objects, Operators};
-use crate::weights::weight_to;
-use tariff::questions::Tariff;
+use crate::year_weights::YearWeights;
+use crate::zone_checks::check_strip;
+use refusal::Refusal;
+use tariff::questions::{Tariff, YEAR_INDICES};
 use tariff::quotient::Quotient;
 
-// Whether an amount and a weight are both above 0, so that a share is due.
-pub(crate) const fn is_due(amount: u64, weight: u64) -> bool
-    ensures value { result ≡ serves amount weight }
+// The weight by which an operator shares an amount: nobody shares nothing.
+fn weight_for(amount: u64, weights: &YearWeights, tranches: &[u32; YEAR_INDICES]) -> u64
+    requires rate { rate_of tranches.now ≤ most_tranches }
+    ensures due { (m : Meaning) → AreAsked m weights.now →
+        nat_lt 0 result ≡ serves amount (weight_to m weights.now.index tranches.now) }
+    ensures value { (m : Meaning) → AreAsked m weights.now → 0 < result →
+        result ≡ weight_to m weights.now.index tranches.now }
+    ensures most { result ≤ most_weight }
 {
-    amount > 0 && weight > 0
+    if amount == 0 {
+        return 0;
+    }
+    u64::from(weights.of_tranches(tranches))
 }
 
 // What nobody is there to take.
@@ -62,7 +76,8 @@ pub(crate) fn share_out<T: Tariff>(
         roll.new ≡ credited_roll m a objects.entry.items.now roll.old }
     ensures most { IsShareOutsMost result }
 {
-    let whole = Operators { items: roll }.whole_weight(sheet, increase);
+    let weights = YearWeights::up_to(sheet, increase.index);
+    let whole = Operators { items: roll }.whole_weight(&weights);
     let mut contributed = 0u64;
     let mut credited = 0u64;
     let mut next = 0usize;
@@ -70,8 +85,8 @@ pub(crate) fn share_out<T: Tariff>(
         let amount = Object { item }.contribution(sheet, increase);
         contributed += amount;
         for member in roll.iter_mut() {
-            let weight = weight_to(sheet, &member.tranches, increase.index);
-            if is_due(amount, weight) {
+            let weight = weight_for(amount, &weights, &member.tranches);
+            if weight > 0 {
                 let part = sheet.rounded(Quotient {
                     numerator: amount * weight,
                     denominator: whole,
@@ -92,17 +107,16 @@ pub(crate) fn share_out<T: Tariff>(
 }
 
 impl<'a> Operators<'a> {
-    // How many credit lines an amount has: one for each operator that weighs something. A loop and no chain, as
-    // `whole_weight` and `lines_shared` are: a step asks that its entry is within its limits, which no closure is told.
-    fn lines_of_amount<T: Tariff>(self, sheet: &T, increase: Increase, amount: u64) -> usize
-        ensures number { let m = T.meaning sheet.now in
-            result ≡ amount_lines m increase.index amount (members_of self.entry.items.now) }
-        ensures most { result ≤ most_operators }
+    // How many weigh something. A loop and no chain, as `whole_weight` is: a step asks that its entry is within its limits,
+    // which no closure is told.
+    fn weighing(self, weights: &YearWeights) -> usize
+        ensures number { (m : Meaning) → AreAsked m weights.now →
+            result ≡ weighing m weights.now.index (members_of self.entry.items.now) }
+        ensures most { result ≤ length self.entry.items.now }
     {
         let mut lines = 0usize;
         for member in self.items {
-            let weight = weight_to(sheet, &member.tranches, increase.index);
-            if is_due(amount, weight) {
+            if weights.of_tranches(&member.tranches) > 0 {
                 lines += 1;
             }
         }
@@ -110,8 +124,31 @@ impl<'a> Operators<'a> {
     }
 }
 
-// How many credit lines a share-out writes.
-pub(crate) fn lines_shared<T: Tariff>(
+// Counts an amount above 0.
+const fn one_if_some(amount: u64) -> usize
+    ensures number { result ≡ due amount 1 }
+    ensures most { result ≤ 1 }
+{
+    if amount > 0 { 1 } else { 0 }
+}
+
+impl<'a> Objects<'a> {
+    // How many contribute something to an increase.
+    fn contributing<T: Tariff>(self, sheet: &T, increase: Increase) -> usize
+        ensures number { let m = T.meaning sheet.now in
+            result ≡ contributing m (addition_in increase) self.entry.items.now }
+        ensures most { result ≤ length self.entry.items.now }
+    {
+        let mut lines = 0usize;
+        for item in self.items {
+            lines += one_if_some(Object { item }.contribution(sheet, increase));
+        }
+        lines
+    }
+}
+
+// How many credit lines a share-out writes: each object that contributes has one for each operator that weighs something.
+fn lines_shared<T: Tariff>(
     sheet: &T,
     increase: Increase,
     objects: Objects<'_>,
@@ -122,12 +159,29 @@ pub(crate) fn lines_shared<T: Tariff>(
         let members = members_of operators.entry.items.now in
         result ≡ lines_shared m a objects.entry.items.now members }
 {
-    let mut lines = 0usize;
-    for item in objects.items {
-        let amount = Object { item }.contribution(sheet, increase);
-        lines += operators.lines_of_amount(sheet, increase, amount);
+    let weights = YearWeights::up_to(sheet, increase.index);
+    objects.contributing(sheet, increase) * operators.weighing(&weights)
+}
+
+// A strip with a place for each credit line. One with a place for each object and operator together has them, and then no
+// line is counted.
+pub(crate) fn check_room<T: Tariff>(
+    sheet: &T,
+    increase: Increase,
+    objects: Objects<'_>,
+    operators: Operators<'_>,
+    places: usize,
+) -> Result<(), Refusal>
+    ensures answer { let m = T.meaning sheet.now in
+        let a = addition_in increase in
+        let members = members_of operators.entry.items.now in
+        let lines = lines_shared m a objects.entry.items.now members in
+        result ≡ passing (strip_checks places lines) }
+{
+    if objects.items.len() * operators.items.len() <= places {
+        return Ok(());
     }
-    lines
+    check_strip(places, lines_shared(sheet, increase, objects, operators))
 }
 
 // Shares out among the counted entries, then enters the tranches; gives what was moved and the new count. The count stands

@@ -16,6 +16,7 @@ use tariff::quotient::Quotient;
 ///
 /// Refused by the first of: `NoDate` for either date, `RateOutOfRange` for tranches outside 1 to 20, `NoPrice`, and
 /// `NoCoefficient` where the dwelling was installed before the date.
+#[inline(always)]
 pub fn unit_price<T: Tariff>(
     sheet: &T,
     kind: Kind,
@@ -45,6 +46,7 @@ pub fn unit_price<T: Tariff>(
 /// sheet's hundredths / 100, rounded by the sheet; else 0.
 ///
 /// Refused by the first of: `NoDate` for either date, `RateOutOfRange` for tranches outside 1 to 20, and `NoPrice`.
+#[inline(always)]
 pub fn unit_contribution<T: Tariff>(
     sheet: &T,
     kind: Kind,
@@ -67,7 +69,9 @@ pub fn unit_contribution<T: Tariff>(
     }))
 }
 
-// The price of some tranches, and the checks that both amounts share.
+// The price of some tranches, and the checks that both amounts share. Inlined, so that what is the same for each dwelling of a
+// bill is checked once.
+#[inline(always)]
 fn price_of<T: Tariff>(
     sheet: &T,
     kind: Kind,

@@ -26,9 +26,9 @@ returns g c =
     let from_strip = strip_checks c.args.places due ∷ [] in
     let from_sheet = price_checks m objects ∷ from_strip in
     let from_roll = roll_checks f t c.args.self.now.event ∷ from_sheet in
-    let lines = c.lines_shared-lines.ensures.number ∙ sym (counted_credits m (addition_in c.of_event-increase.result) objects members) ∙ ap (λ a. length (credits m a objects members)) adds in
+    let lines = sym (counted_credits m (addition_in c.of_event-increase.result) objects members) ∙ ap (λ a. length (credits m a objects members)) adds in
     record {
-      answer = c.check_strip.ensures.answer
+      answer = c.check_room.ensures.answer
           ∙ last_place (strip_checks c.args.places _)
           ∙ ap (λ n. in_turn (strip_checks c.args.places n ∷ []) (tt {0})) lines
           ∙ later_places (price_checks m objects) from_strip (tt {0}) (tt {0}) _ prices
