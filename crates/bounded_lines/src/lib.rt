@@ -1,0 +1,151 @@
+// Lines of an input, none of which takes more memory than the longest line.
+#![tactic(auto)]
+
+ghost use Rattle.std.specs.Prelude.{◌≡◌, [], ◌∷◌, IfOk, OnOk, IfSome, MatchOption, vec_items};
+ghost use Rattle.std.specs.Option.{option_map};
+ghost use Rattle.std.specs.Io.BufRead.{DropsThrough};
+ghost use Rattle.std.specs.Io.KnownBytes.{Consumes, IsAtEnd};
+ghost use Rattle.bounded_lines.specs.Lines.{line_feed, line_read};
+
+use std::alloc::Global;
+use std::io;
+use std::io::{BufRead, ErrorKind, Read};
+
+/// The most bytes of a line, its line feed not counted.
+pub const LONGEST_LINE: usize = 4_096;
+
+/// The next line of an input without its line feed, or none at the end. A line that is too long is read to its end, and as
+/// much of it is handed out as shows that it is: one byte more than the longest line has. The last line may have no line
+/// feed. After an error what was read of the line is lost.
+pub fn next_line<B: BufRead>(heap: Global, input: &mut B) -> io::Result<Option<Vec<u8>>>
+    ensures line { IfOk result (λ found. IfSome (B.remaining input.old)
+        (λ given. option_map vec_items found ≡ line_read given)) }
+    ensures rest { OnOk result
+        (DropsThrough (B.remaining input.old) (B.remaining input.new) line_feed) }
+{
+    let mut line = Vec::new(heap);
+    while line.len() <= LONGEST_LINE {
+        match next_byte(input)? {
+            Some(b'\n') => return Ok(Some(line)),
+            Some(byte) => line.push(byte)?,
+            None if line.is_empty() => return Ok(None),
+            None => return Ok(Some(line)),
+        }
+    }
+    input.skip_until(b'\n')?;
+    Ok(Some(line))
+}
+
+// The next byte, or none at the end. A read that a signal interrupts is made again.
+fn next_byte<R: Read>(input: &mut R) -> io::Result<Option<u8>>
+    ensures value { IfOk result (λ next. MatchOption next
+        (Consumes (R.remaining input.old) (R.remaining input.new) [] × IsAtEnd (R.remaining input.new))
+        (λ byte. Consumes (R.remaining input.old) (R.remaining input.new) (byte ∷ []))) }
+{
+    let mut one = [0u8; 1];
+    for _ in 0..u64::MAX {
+        match input.read(&mut one) {
+            Ok(0) => return Ok(None),
+            Ok(_) => return Ok(Some(one[0])),
+            Err(error) if error.kind() == ErrorKind::Interrupted => {}
+            Err(error) => return Err(error),
+        }
+    }
+    Err(ErrorKind::Interrupted.into())
+}
+
+#[cfg(test)]
+mod tests {
+    use super::*;
+    use std::io::{BufReader, Error};
+    use std::test::Fail;
+
+    // An input that gives a byte at a time, is interrupted before each, and fails at its end if it is to.
+    #[derive(Drop)]
+    struct Slow<'a> {
+        bytes: &'a [u8],
+        interrupted: bool,
+        fails: bool,
+    }
+
+    impl<'a> Read for Slow<'a> {
+        fn read(&mut self, buf: &mut [u8]) -> io::Result<usize> {
+            self.interrupted = !self.interrupted;
+            if self.interrupted {
+                return Err(Error::from(ErrorKind::Interrupted));
+            }
+            if self.bytes.is_empty() && self.fails {
+                return Err(Error::from(ErrorKind::Other));
+            }
+            let (Some((byte, rest)), Some(first)) = (self.bytes.split_first(), buf.first_mut())
+            else {
+                return Ok(0);
+            };
+            *first = *byte;
+            self.bytes = rest;
+            Ok(1)
+        }
+    }
+
+    // Lines below the limit, of the limit, one over and several times over; the last is one over and has no line feed.
+    #[test]
+    fn long_lines_are_cut(rt: HostRuntime) -> Result<(), Fail> {
+        let lengths = [
+            (0, 0),
+            (2, 2),
+            (4_096, 4_096),
+            (4_097, 4_097),
+            (3, 3),
+            (12_288, 4_097),
+            (0, 0),
+        ];
+        let mut bytes = Vec::new(rt.alloc());
+        for (length, _) in lengths {
+            bytes.resize(bytes.len() + length, b'x')?;
+            bytes.push(b'\n')?;
+        }
+        bytes.resize(bytes.len() + 4_097, b'x')?;
+        let slow = Slow {
+            bytes: bytes.as_slice(),
+            interrupted: false,
+            fails: false,
+        };
+        let mut input = BufReader::with_capacity(rt.alloc(), 64, slow)?;
+        for (length, kept) in lengths {
+            let line = next_line(rt.alloc(), &mut input)?.ok_or("a line")?;
+            assert_eq!(&rt; line.len(), kept, "of {length} bytes");
+        }
+        let last = next_line(rt.alloc(), &mut input)?.ok_or("a last line")?;
+        assert_eq!(&rt; last.len(), 4_097);
+        assert!(&rt; next_line(rt.alloc(), &mut input)?.is_none());
+        Ok(())
+    }
+
+    // A failure in mid-line is no shorter line, also where the line is too long already.
+    #[test]
+    fn failures_are_told(rt: HostRuntime) -> Result<(), Fail> {
+        let long = [b'x'; 5_000];
+        for line in [b"link 2019".as_slice(), long.as_slice()] {
+            let slow = Slow {
+                bytes: line,
+                interrupted: false,
+                fails: true,
+            };
+            let mut input = BufReader::new(rt.alloc(), slow)?;
+            assert!(&rt; next_line(rt.alloc(), &mut input).is_err());
+        }
+        Ok(())
+    }
+
+    // A line without its line feed is a line, and nothing is none.
+    #[test]
+    fn last_lines_count(rt: HostRuntime) -> Result<(), Fail> {
+        let mut input = b"one\n\ntwo".as_slice();
+        for line in [b"one".as_slice(), b"", b"two"] {
+            let read = next_line(rt.alloc(), &mut input)?.ok_or("a line")?;
+            assert_eq!(&rt; read.as_slice(), line);
+        }
+        assert!(&rt; next_line(rt.alloc(), &mut input)?.is_none());
+        Ok(())
+    }
+}
