@@ -1,19 +1,34 @@
-// Lines from standard input, replies to standard output.
+// Lines from an input, replies to an output.
 use crate::desk::Desk;
 use crate::reply::Reply;
-use std::io;
-use std::io::{BufRead, BufReader};
+use bounded_lines::next_line;
+use std::alloc::Global;
+use std::io::{BufRead, Read, Write};
+use streams::failure::Failure;
+use streams::pieces::{read_in_pieces, written_in_pieces};
 
-/// Brings each line of standard input to a desk, and prints its answers. Fails only where reading, writing or memory does.
-pub fn serve_input(rt: &HostRuntime) -> io::Result<()> {
-    let mut desk = Desk::new(rt.alloc());
-    let lines = BufReader::new(rt.alloc(), rt.stdin())?.split(rt.alloc(), b'\n');
-    for (above, bytes) in lines.enumerate() {
-        let bytes = bytes?;
-        if let Some(answer) = desk.take(bytes.as_slice())? {
+/// Brings each line of an input to a desk, and writes its answers. Fails only where reading, writing or memory does, and
+/// what was answered before is written then.
+pub fn serve<R: Read + Drop, W: Write + Drop>(
+    heap: Global,
+    input: R,
+    output: W,
+) -> Result<(), Failure> {
+    let mut desk = Desk::new(heap);
+    let mut input = read_in_pieces(heap, input)?;
+    let mut output = written_in_pieces(heap, output)?;
+    for above in 0..usize::MAX {
+        // Whoever waits for a reply before the next line gets it.
+        if !input.buffer().contains(&b'\n') {
+            output.flush().map_err(Failure::output)?;
+        }
+        let Some(line) = next_line(heap, &mut input).map_err(Failure::input)? else {
+            break;
+        };
+        if let Some(answer) = desk.take(line.as_slice())? {
             let reply = Reply::below(above, answer);
-            println!(rt; "{reply}")?;
+            writeln!(output, "{reply}").map_err(Failure::output)?;
         }
     }
-    Ok(())
+    output.flush().map_err(Failure::output)
 }

@@ -1,12 +1,13 @@
 // How a line of text is read.
 ghost use Rattle.std.specs.Prelude.{◌≡◌};
 ghost use Rattle.requests.specs.Fields.{fields_in};
-ghost use Rattle.requests.specs.Requests.{keyword_named, enquiry_in, said_after, comment, request_in};
+ghost use Rattle.requests.specs.Requests.{keyword_named, enquiry_in, said_after, comment, asked_in, request_in, SaysWhenCut};
 
 use crate::fields::{choice_in, index_in, order_in, record_in};
 use crate::request::{Enquiry, Item, Request};
 use crate::unreadable::Unreadable;
 use crate::words::cut_word;
+use bounded_lines::LONGEST_LINE;
 
 // What the first word of a line announces.
 #[derive(Clone, Copy)]
@@ -37,9 +38,22 @@ impl TryFrom<&[u8]> for Keyword {
     }
 }
 
-/// What a line of text asks for, or why it cannot be read. A line that is blank or begins with a number sign asks for nothing.
+/// What a line of text asks for, or why it cannot be read. A line that is blank or begins with a number sign asks for
+/// nothing. A line that is too long may be cut off where that shows.
+#[tactic(auto, using(crate::proofs::Cuts::says_when_cut))]
 pub fn request_in(line: &[u8]) -> Result<Option<Request>, Unreadable>
     ensures value { result ≡ request_in line.now }
+    ensures cut { SaysWhenCut }
+{
+    if line.len() > LONGEST_LINE {
+        return Err(Unreadable::TooLong);
+    }
+    asked_in(line)
+}
+
+// What a line that is not too long asks for.
+fn asked_in(line: &[u8]) -> Result<Option<Request>, Unreadable>
+    ensures value { result ≡ asked_in line.now }
 {
     let (first, rest) = cut_word(line);
     if is_comment(first) {

@@ -7,6 +7,8 @@ use std::fmt;
 /// Why a line cannot be read. Its text is the reason in words.
 #[derive(Clone, Copy, PartialEq, Eq, Debug)]
 pub enum Unreadable {
+    /// It has more bytes than the longest line.
+    TooLong,
     /// Its first word is none that a line begins with.
     UnknownWord,
     /// It has too few or too many words.
@@ -27,6 +29,7 @@ impl Unreadable {
         ensures value { result.now ≡ reason_text self }
     {
         match self {
+            Unreadable::TooLong => "the line is longer than 4096 bytes",
             Unreadable::UnknownWord =>
                 "a line begins with link, fibre, sheet, wages, consumer or price",
             Unreadable::WordCount => "the line has too few or too many words",
