@@ -50,6 +50,7 @@ EXTRA = """
 """
 EDGES = [(1, 1000), (1001, 2000), (2001, 4000), (4001, 6000), (6001, 8000),
          (8001, 10000), (10001, 12000), (12001, 14000), (14001, 16000)]
+LONGEST = 4096  # bytes of a line
 YEARS = [100, 110, 118, 125, 127, 128, 127, 125, 122, 118, 112, 106, 98, 90, 81, 70, 59, 46, 32, 25, 25]
 SENTENCES = {
     2: "a date is not a calendar day from 20080101 to 20991231",
@@ -216,6 +217,9 @@ def cases():
 def replies(lines):
     desk = Desk()
     for count, line in enumerate(lines, 1):
+        if len(line) > LONGEST:
+            yield f"LINE {count} UNREADABLE: the line is longer than {LONGEST} bytes"
+            continue
         words = line.split()
         if not words or words[0].startswith("#"):
             continue

@@ -2,8 +2,13 @@
 // and works out the replies. A program of its own, since its cases are its input and its output.
 #![tactic(auto)]
 
-use std::io;
+#[cfg(test)]
+mod served;
 
-fn main(rt: HostRuntime) -> io::Result<()> {
-    quote_desk::service::serve_input(&rt)
+use quote_desk::service::serve;
+use std::process::ExitCode;
+use streams::ending::ended;
+
+fn main(rt: HostRuntime) -> ExitCode {
+    ended(&rt, serve(rt.alloc(), rt.stdin(), rt.stdout()))
 }

@@ -1,11 +1,10 @@
 // Prices orders for links and extra fibres: one order a line on standard input, one reply a line on standard output.
 #![tactic(auto)]
 
-fn run(rt: &HostRuntime) -> anyhow::Result<()> {
-    quote_desk::service::serve_input(rt)?;
-    Ok(())
-}
+use quote_desk::service::serve;
+use std::process::ExitCode;
+use streams::ending::ended;
 
-fn main(rt: HostRuntime) -> anyhow::Result<()> {
-    run(&rt)
+fn main(rt: HostRuntime) -> ExitCode {
+    ended(&rt, serve(rt.alloc(), rt.stdin(), rt.stdout()))
 }
