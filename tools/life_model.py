@@ -22,6 +22,8 @@ It is written from docs/RULES.md and shares nothing with the programs. A line of
     S DATE OBJECT DWELLINGS            a cabling
     T DATE OBJECT DWELLINGS            a cabling by a third party
 
+A line of more than 4,096 bytes cannot be read, whatever it begins with.
+
 A commitment or raise that bills is shared out at once; where the places lent first are too few, on 16,384.
 """
 import re
@@ -31,6 +33,7 @@ from zone_model import CONNECTABLE, COVERED, THIRD_PARTY, Dated, Flat, Indexed, 
 
 INSTALLED = {"P": COVERED, "S": CONNECTABLE, "T": THIRD_PARTY}
 WIDEST = 16_384
+LONGEST = 4_096
 
 
 class Unreadable(Exception):
@@ -177,6 +180,9 @@ def played(script):
     """The lines that a script prints."""
     life = None
     for text in script:
+        if len(text) > LONGEST:
+            yield "UNREADABLE"
+            continue
         words = text.split()
         if not words or words[0].startswith("#"):
             continue

@@ -16,6 +16,7 @@ import sys
 
 SEED = 20170315
 DRAWN = 60
+LONGEST = 4_096  # bytes of a line
 
 
 def calls(text):
@@ -420,12 +421,31 @@ def drawn(seed, count):
         yield f"drawn {number}", Drawing(source).lines()
 
 
+def stretched(line, length):
+    """A line with so many blanks before its last word that it has this length."""
+    words, last = line.rsplit(" ", 1)
+    return words + last.rjust(length - len(words))
+
+
+def long_lines():
+    """Lines of the longest length, of one byte more and of several times as many, and a comment that is too long."""
+    yield "lines of the longest length, and longer ones", [
+        stretched("E 20170301 1 4", LONGEST),
+        stretched("E 20170301 2 2", LONGEST + 1),
+        stretched("E 20170301 3 1", 3 * LONGEST),
+        "#".ljust(LONGEST, "-"),
+        "#".ljust(LONGEST + 1, "-"),
+        "E 20170301 4 1",
+        "x" * (LONGEST + 1),
+    ]
+
+
 def script(seed=SEED, count=DRAWN):
-    """The lines of the script, with so many lives drawn from a seed."""
+    """The lines of the script, with so many lives drawn from a seed before the one of the long lines."""
     yield "# Small lives of a zone, made by tools/make_lives.py; tools/life_model.py describes the lines."
     yield "E 20170301 1 4"
     by_hand = (sums(), indexed_sums(), refusals_of_prepared(), refusals_of_launched(), limits())
-    for lives in (*by_hand, drawn(seed, count)):
+    for lives in (*by_hand, drawn(seed, count), long_lines()):
         for title, lines in lives:
             yield ""
             yield "life " + title

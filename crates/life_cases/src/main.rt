@@ -9,14 +9,28 @@ mod player;
 mod reading;
 mod shown;
 
+use bounded_lines::next_line;
 use player::Player;
-use std::io;
-use std::io::{BufRead, BufReader};
+use std::alloc::Global;
+use std::io::{Read, Write};
+use std::process::ExitCode;
+use streams::ending::ended;
+use streams::failure::Failure;
+use streams::pieces::{read_in_pieces, written_in_pieces};
 
-fn main(rt: HostRuntime) -> io::Result<()> {
-    let mut player = Player::new(rt.alloc())?;
-    for line in BufReader::new(rt.alloc(), rt.stdin())?.lines(rt.alloc()) {
-        player.take(&rt, line?.as_str())?;
+// Plays the lines of an input.
+fn play<R: Read + Drop, W: Write + Drop>(heap: Global, input: R, output: W) -> Result<(), Failure> {
+    let mut input = read_in_pieces(heap, input)?;
+    let mut player = Player::new(heap, written_in_pieces(heap, output)?)?;
+    for _ in 0..u64::MAX {
+        let Some(line) = next_line(heap, &mut input).map_err(Failure::input)? else {
+            break;
+        };
+        player.take(line.as_slice()).map_err(Failure::output)?;
     }
-    player.close(&rt)
+    player.finish().map_err(Failure::output)
+}
+
+fn main(rt: HostRuntime) -> ExitCode {
+    ended(&rt, play(rt.alloc(), rt.stdin(), rt.stdout()))
 }
