@@ -3,10 +3,20 @@
 
 use event_file::input::file_bytes;
 use statements::network::network_statement;
-use std::io;
+use std::io::Write;
+use std::process::ExitCode;
+use streams::ending::ended;
+use streams::failure::Failure;
 
-fn main(rt: HostRuntime) -> io::Result<()> {
-    let bytes = file_bytes(rt.alloc(), rt.stdin())?;
+// The statement is written whole, once it is known.
+fn state(rt: &HostRuntime) -> Result<(), Failure> {
+    let bytes = file_bytes(rt.alloc(), rt.stdin()).map_err(Failure::input)?;
     let text = network_statement(rt.alloc(), bytes.as_slice())?;
-    print!(rt; "{text}")
+    rt.stdout()
+        .write_all(text.as_bytes())
+        .map_err(Failure::output)
+}
+
+fn main(rt: HostRuntime) -> ExitCode {
+    ended(&rt, state(&rt))
 }
