@@ -9,7 +9,7 @@ the conditions. Those after them are drawn at random, from a fixed seed, or from
 
     python3 tools/make_lives.py SEED DRAWN
 
-tools/life_model.py describes the lines.
+The last one, by hand too, has lines of the longest length, and longer ones. tools/life_model.py describes the lines.
 """
 import random
 import sys
