@@ -1,23 +1,23 @@
-//! States an event file, as docs/RULES.md and docs/FORMAT.md say: a plain program, written for
-//! speed, that the speed of the program `statement` is compared with. It reads standard input and
-//! prints what `statement` prints.
+//! States an event file, as docs/RULES.md and docs/FORMAT.md say. This is the plain program that
+//! the speed of the program `statement` is compared with: the same job, written at once, to be
+//! fast, in the order in which the rules say it. It reads standard input and prints what
+//! `statement` prints.
 //!
 //!     rustc -O --edition 2021 -o plain tools/bench/plain.rs && ./plain < FILE
 //!
 //! It does the whole job of the zone book: a zone keeps no table, each call is lent its tables and
-//! a strip, trusts nothing of them, and writes the lines that it makes. The sheet is known by its
-//! answers to five questions alone.
+//! a strip, trusts nothing of them, and writes the lines that it makes. A call allocates nothing.
+//! The sheet is known by its answers to five questions alone.
 //!
-//! A call allocates nothing and has no array with a place for each operator, so a share-out works
-//! out what an operator weighs each time it needs it. With `--cfg row_of_weights` each share-out
-//! works all weights out once and keeps them in a row.
+//! What an operator weighs is added up each time that a share-out needs it. With
+//! `--cfg row_of_weights` a share-out adds all weights up once and keeps them in a row.
 //!
 //! With `--cfg own_tables` no call checks its tables, as if the program owned them. This does less
 //! than the rules ask, and only tells what the check takes.
 
+use std::array;
 use std::hint::black_box;
-use std::io::{self, ErrorKind, Read, Write};
-use std::process::ExitCode;
+use std::io::{self, Read, Write};
 
 const ENTRY: usize = 30;
 const CHECKED: usize = 17 * ENTRY;
@@ -39,20 +39,28 @@ const MOST: u64 = 4_000_000_000_000_000_000;
 const REGISTER: usize = 64;
 const STRIP: usize = 1_024;
 
+/// What is asked for, or the number of a refusal.
+type Answer<T = ()> = Result<T, u8>;
+
+fn refuse_if(condition: bool, number: u8) -> Answer {
+    match condition {
+        true => Err(number),
+        false => Ok(()),
+    }
+}
+
 // The sheet
 
-#[derive(Clone, Copy)]
+#[derive(Clone, Copy, Default)]
 enum Kind {
+    #[default]
     Covered,
     Connectable,
     ThirdParty,
 }
 
-/// An unreduced fraction.
-struct Fraction {
-    numerator: u32,
-    denominator: u32,
-}
+/// An unreduced fraction: a numerator over a denominator.
+struct Fraction(u32, u32);
 
 /// All that the zone knows of a price sheet: its answers to five questions.
 trait Sheet {
@@ -95,28 +103,26 @@ const NETWORK: Dated = Dated {
     weights: [100; YEARS],
 };
 
+/// The common row: the coefficient after each number of whole years, in hundredths.
+const ROW: [u32; 21] = [
+    100, 110, 118, 125, 127, 128, 127, 125, 122, 118, 112, 106, 98, 90, 81, 70, 59, 46, 32, 25, 25,
+];
+
 impl Sheet for Dated {
     fn price(&self, kind: Kind, installed: u32) -> Option<u32> {
-        let (first, others) = self.records.split_first()?;
-        if installed < first.from {
-            return None;
-        }
-        let mut record = first;
-        for later in others {
-            if installed < later.from {
-                break;
-            }
-            record = later;
-        }
-        Some(record.prices[kind as usize])
+        let mut records = self.records.iter();
+        let in_force = records.rfind(|record| record.from <= installed)?;
+        Some(in_force.prices[kind as usize])
     }
 
     fn coefficient(&self, installed: u32, received: u32) -> Option<Fraction> {
         let months = months_of(received).saturating_sub(months_of(installed));
-        Some(Fraction {
-            numerator: COEFFICIENTS[months.min(240) as usize],
-            denominator: 1_200,
-        })
+        let (years, rest) = (months as usize / 12, months % 12);
+        let numerator = match ROW.get(years..years + 2) {
+            Some(row) => (12 - rest) * row[0] + rest * row[1],
+            None => 12 * ROW[20],
+        };
+        Some(Fraction(numerator, 1_200))
     }
 
     fn contribution(&self) -> u32 {
@@ -127,34 +133,13 @@ impl Sheet for Dated {
         self.weights[year]
     }
 
-    /// Up from one half on. The product by 2^64 / denominator, rounded down, gives the quotient or
-    /// one less. That factor rests on the denominator alone, so a compiler works it out once where
-    /// the denominator stays the same, and a division of 64 bits takes longer than two products.
-    #[inline(always)]
+    /// The seventh decimal is 5 or more where the rest is half of the denominator or more.
     fn rounded(&self, numerator: u64, denominator: u32) -> u64 {
         let denominator = u64::from(denominator);
-        let factor = u64::MAX / denominator;
-        let numerator = numerator + denominator / 2;
-        let quotient = ((u128::from(numerator) * u128::from(factor)) >> 64) as u64;
-        quotient + u64::from(numerator - quotient * denominator >= denominator)
+        let (quotient, rest) = (numerator / denominator, numerator % denominator);
+        quotient + u64::from(2 * rest >= denominator)
     }
 }
-
-/// The common row: the coefficient after each number of months, as a numerator over 1,200.
-const COEFFICIENTS: [u32; 241] = {
-    let row = [
-        100, 110, 118, 125, 127, 128, 127, 125, 122, 118, 112, 106, 98, 90, 81, 70, 59, 46, 32, 25,
-        25,
-    ];
-    let mut numerators = [300; 241];
-    let mut months = 0;
-    while months < 240 {
-        let (x, y) = (months / 12, months % 12);
-        numerators[months] = (12 - y as u32) * row[x] + y as u32 * row[x + 1];
-        months += 1;
-    }
-    numerators
-};
 
 // Days
 
@@ -162,43 +147,20 @@ fn year_of(date: u32) -> u32 {
     date / 10_000
 }
 
-/// A date's months, counted from the year 0.
 fn months_of(date: u32) -> u32 {
-    date / 100 - 88 * year_of(date)
+    12 * year_of(date) + date / 100 % 100
 }
 
-const FIRST_DAY: u32 = 20080101;
-const LAST_DAY: u32 = 20991231;
-
-/// A bit for each number from the first day to the last, which is set if it is a date.
-const DAYS: [u32; (LAST_DAY - FIRST_DAY) as usize / 32 + 1] = {
-    let mut days = [0; (LAST_DAY - FIRST_DAY) as usize / 32 + 1];
-    let mut month = 0;
-    while month < 92 * 12 {
-        let (year, month_of_year) = (2008 + month / 12, 1 + month % 12);
-        let length = match month_of_year {
-            2 if year % 4 == 0 => 29,
-            2 => 28,
-            4 | 6 | 9 | 11 => 30,
-            _ => 31,
-        };
-        let first = year * 10_000 + month_of_year * 100 + 1 - FIRST_DAY;
-        let mut day = 0;
-        while day < length {
-            days[(first + day) as usize / 32] |= 1 << ((first + day) % 32);
-            day += 1;
-        }
-        month += 1;
-    }
-    days
-};
-
 fn is_date(number: u32) -> bool {
-    let at = number.wrapping_sub(FIRST_DAY);
-    match DAYS.get(at as usize / 32) {
-        Some(days) => days >> (at % 32) & 1 == 1,
-        None => false,
-    }
+    let (year, month, day) = (year_of(number), number / 100 % 100, number % 100);
+    let days = match month {
+        2 if year % 4 == 0 => 29,
+        2 => 28,
+        4 | 6 | 9 | 11 => 30,
+        1..=12 => 31,
+        _ => 0,
+    };
+    (2008..=2099).contains(&year) && (1..=days).contains(&day)
 }
 
 // Tables and strips
@@ -219,26 +181,23 @@ impl Operator {
         }
     }
 
-    fn rate(&self) -> u32 {
-        self.tranches.iter().sum()
+    /// In 64 bits, since the tranches of a table that is lent may be any numbers.
+    fn rate(&self) -> u64 {
+        self.tranches.iter().copied().map(u64::from).sum()
     }
 
-    /// What its tranches weigh, by the weights of the years that count. The tranches are 20 at most
-    /// and a weight 200, so all this fits in 16 bits: a processor works out several years at once.
-    #[inline(never)]
-    fn weight(&self, years: &[u16; YEARS]) -> u32 {
+    /// What its tranches weigh, by the weights of the years that count.
+    fn weight(&self, years: &[u32]) -> u32 {
         let pairs = self.tranches.iter().zip(years);
-        let products = pairs.map(|(&tranches, &year)| (tranches as u16).wrapping_mul(year));
-        u32::from(products.fold(0_u16, u16::wrapping_add))
+        pairs.map(|(tranches, weight)| tranches * weight).sum()
     }
 
-    /// All tranches of all years in one number: where that is below 32, so is each of them.
-    fn any(&self) -> u32 {
-        self.tranches.iter().fold(0, |any, tranches| any | tranches)
+    fn is_lawful(&self) -> bool {
+        self.number != 0 && (1..=20).contains(&self.rate()) && self.balance <= MOST
     }
 }
 
-#[derive(Clone, Copy)]
+#[derive(Clone, Copy, Default)]
 struct Object {
     number: u32,
     kind: Kind,
@@ -247,22 +206,37 @@ struct Object {
 }
 
 impl Object {
-    /// Is it within its limits, its number aside?
     fn is_lawful(&self) -> bool {
-        is_date(self.installed) && (1..=10_000).contains(&self.dwellings)
+        self.number != 0 && is_date(self.installed) && (1..=10_000).contains(&self.dwellings)
     }
 }
 
-#[derive(Clone, Copy)]
+/// Each number is compared with all later ones. This takes no memory.
+fn is_roll(roll: &[Operator]) -> bool {
+    roll.iter().enumerate().all(|(at, operator)| {
+        let mut later = roll[at + 1..].iter();
+        operator.is_lawful() && !later.any(|later| later.number == operator.number)
+    })
+}
+
+fn is_register(register: &[Object]) -> bool {
+    register.iter().enumerate().all(|(at, object)| {
+        let mut later = register[at + 1..].iter();
+        object.is_lawful() && !later.any(|later| later.number == object.number)
+    })
+}
+
+#[derive(Clone, Copy, Default)]
 #[repr(u32)]
 enum Nature {
+    #[default]
     Charge = 1,
     Contribution = 2,
     Credit = 3,
 }
 
 /// A line of a bill or a share-out.
-#[derive(Clone, Copy)]
+#[derive(Clone, Copy, Default)]
 #[allow(dead_code)]
 struct Line {
     nature: Nature,
@@ -274,90 +248,28 @@ struct Line {
 }
 
 impl Line {
-    #[inline(always)]
     fn new(nature: Nature, operator: u32, object: u32, unit: u64, quantity: u32) -> Line {
+        let total = unit * u64::from(quantity);
         Line {
             nature,
             operator,
             object,
             unit,
             quantity,
-            total: unit * u64::from(quantity),
+            total,
         }
     }
-}
-
-/// Spreads numbers that may be near each other, or alike in many digits, over all 32 bits.
-fn spread(number: u32) -> u32 {
-    number.wrapping_mul(0x9E37_79B9)
-}
-
-/// Is every operator within its limits, and no number there twice?
-///
-/// No year has 32 tranches or more, which would be too many by itself, so no rate runs over. This
-/// is asked in a loop of its own, so that both loops take several years at once.
-///
-/// Each number sets one bit of 64. Only one that finds its bit set is compared with those before.
-fn is_roll(roll: &[Operator]) -> bool {
-    if roll.iter().fold(0, |any, operator| any | operator.any()) >= 32 {
-        return false;
-    }
-    let mut seen = 0_u64;
-    for (at, operator) in roll.iter().enumerate() {
-        let number = operator.number;
-        if number == 0 || !(1..=20).contains(&operator.rate()) || operator.balance > MOST {
-            return false;
-        }
-        let bit = 1 << (spread(number) >> 26);
-        if seen & bit != 0 && roll[..at].iter().any(|earlier| earlier.number == number) {
-            return false;
-        }
-        seen |= bit;
-    }
-    true
-}
-
-/// Is every object within its limits, no number 0, and none there twice? Numbers that rise differ.
-fn is_register(register: &[Object]) -> bool {
-    if !register.iter().all(Object::is_lawful) {
-        return false;
-    }
-    match register.first() {
-        Some(first) if register.is_sorted_by(|one, next| one.number < next.number) => {
-            first.number != 0
-        }
-        _ if register.len() <= 128 => differ::<256, 24>(register),
-        _ => differ::<2_048, 21>(register),
-    }
-}
-
-/// Do all numbers differ, and is none 0? Each is put in the first free slot from the one that it is
-/// spread to, and is compared with those in between. There are at least twice as many slots as
-/// objects, so there is always a free one, and mostly it is the first.
-fn differ<const SLOTS: usize, const SHIFT: u32>(register: &[Object]) -> bool {
-    let mut slots = [0; SLOTS];
-    for object in register {
-        let mut slot = (spread(object.number) >> SHIFT) as usize;
-        while slots[slot] != 0 && slots[slot] != object.number {
-            slot = (slot + 1) % SLOTS;
-        }
-        if slots[slot] == object.number {
-            return false;
-        }
-        slots[slot] = object.number;
-    }
-    true
 }
 
 // The zone
 
-#[derive(Clone, Copy)]
+#[derive(Clone, Copy, PartialEq)]
 enum Change {
     Commitment,
     Raise,
 }
 
-/// A commitment or a raise that is billed and not yet shared out.
+/// A commitment or a raise: once it is billed, it waits for its share-out.
 struct Levy {
     date: u32,
     operator: u32,
@@ -365,13 +277,7 @@ struct Levy {
     change: Change,
 }
 
-/// What an accepted commitment or raise does to the roll: it adds tranches at a place.
-struct Addition {
-    at: usize,
-    operator: u32,
-    tranches: u32,
-}
-
+#[derive(Default)]
 struct Zone {
     launched: Option<u32>,
     last: Option<u32>,
@@ -385,29 +291,52 @@ struct Zone {
 
 /// The checks, in the order in which the calls ask them.
 impl Zone {
-    #[inline(never)]
-    fn check_tables(&self, roll: &[Operator], register: &[Object]) -> Result<(), u8> {
+    /// The counts of entries need no limit of their own: no slice holds so many.
+    fn check_tables(&self, roll: &[Operator], register: &[Object]) -> Answer {
         if cfg!(own_tables) {
             return Ok(());
         }
-        let counts = [
-            self.operators as u64,
-            self.objects as u64,
-            self.credit_lines,
-        ];
+        let roll = roll.get(..self.operators).ok_or(1)?;
+        let register = register.get(..self.objects).ok_or(1)?;
         let totals = [self.contributed, self.credited, self.unshared];
-        let (Some(roll), Some(register)) =
-            (roll.get(..self.operators), register.get(..self.objects))
-        else {
-            return Err(1);
-        };
-        if counts.iter().chain(&totals).any(|&number| number > MOST) {
-            return Err(1);
+        refuse_if(!is_roll(roll) || !is_register(register), 1)?;
+        refuse_if(totals.iter().any(|&total| total > MOST), 1)?;
+        refuse_if(self.credit_lines > MOST, 1)
+    }
+
+    fn check_date(&self, date: u32) -> Answer {
+        refuse_if(!is_date(date), 2)?;
+        refuse_if(self.last.is_some_and(|last| date < last), 3)?;
+        refuse_if(self.index(date) >= YEARS, 4)
+    }
+
+    /// The operator's place on the roll, and the tranches that it adds there.
+    fn check_roll(&self, roll: &[Operator], levy: &Levy) -> Answer<(usize, u32)> {
+        refuse_if(levy.operator == 0, 5)?;
+        refuse_if(!(1..=20).contains(&levy.rate), 6)?;
+        let counted = &roll[..self.operators];
+        let is_its_entry = |entry: &Operator| entry.number == levy.operator;
+        match (levy.change, counted.iter().position(is_its_entry)) {
+            (Change::Commitment, Some(_)) => Err(7),
+            (Change::Commitment, None) => {
+                refuse_if(counted.len() == OPERATORS.min(roll.len()), 10)?;
+                Ok((counted.len(), levy.rate))
+            }
+            (Change::Raise, None) => Err(8),
+            (Change::Raise, Some(at)) => {
+                let present = counted[at].rate() as u32;
+                refuse_if(levy.rate <= present, 9)?;
+                Ok((at, levy.rate - present))
+            }
         }
-        if !is_roll(roll) || !is_register(register) {
-            return Err(1);
-        }
-        Ok(())
+    }
+
+    fn check_register(&self, register: &[Object], object: &Object) -> Answer {
+        let counted = &register[..self.objects];
+        let present = counted.iter().any(|entry| entry.number == object.number);
+        refuse_if(object.number == 0 || present, 11)?;
+        refuse_if(!(1..=10_000).contains(&object.dwellings), 12)?;
+        refuse_if(counted.len() == OBJECTS.min(register.len()), 13)
     }
 
     fn index(&self, date: u32) -> usize {
@@ -417,71 +346,13 @@ impl Zone {
         }
     }
 
-    fn check_date(&self, date: u32) -> Result<(), u8> {
-        if !is_date(date) {
-            return Err(2);
-        }
-        if self.last.is_some_and(|last| date < last) {
-            return Err(3);
-        }
-        if self.index(date) >= YEARS {
-            return Err(4);
-        }
-        Ok(())
-    }
-
-    fn check_roll(
-        &self,
-        roll: &[Operator],
-        operator: u32,
-        rate: u32,
-        change: Change,
-    ) -> Result<Addition, u8> {
-        if operator == 0 {
-            return Err(5);
-        }
-        if !(1..=20).contains(&rate) {
-            return Err(6);
-        }
-        let counted = &roll[..self.operators];
-        let known = counted.iter().position(|entry| entry.number == operator);
-        let (at, present) = match (known, change) {
-            (Some(_), Change::Commitment) => return Err(7),
-            (None, Change::Raise) => return Err(8),
-            (Some(at), Change::Raise) => match counted[at].rate() {
-                present if rate <= present => return Err(9),
-                present => (at, present),
-            },
-            (None, _) if counted.len() == OPERATORS.min(roll.len()) => return Err(10),
-            (None, Change::Commitment) => (self.operators, 0),
-        };
-        Ok(Addition {
-            at,
-            operator,
-            tranches: rate - present,
-        })
-    }
-
-    fn check_register(&self, register: &[Object], object: u32, dwellings: u32) -> Result<(), u8> {
-        let counted = &register[..self.objects];
-        if object == 0 || counted.iter().any(|entry| entry.number == object) {
-            return Err(11);
-        }
-        if !(1..=10_000).contains(&dwellings) {
-            return Err(12);
-        }
-        if counted.len() == OBJECTS.min(register.len()) {
-            return Err(13);
-        }
-        Ok(())
-    }
-
-    fn enter(&mut self, roll: &mut [Operator], addition: &Addition, index: usize) {
-        if addition.at == self.operators {
-            roll[addition.at] = Operator::new(addition.operator);
+    /// The place of the operator, which is a newcomer if it is the first after those counted.
+    fn entry<'a>(&mut self, roll: &'a mut [Operator], at: usize, number: u32) -> &'a mut Operator {
+        if at == self.operators {
+            roll[at] = Operator::new(number);
             self.operators += 1;
         }
-        roll[addition.at].tranches[index] += addition.tranches;
+        &mut roll[at]
     }
 }
 
@@ -490,22 +361,17 @@ impl Zone {
 impl Zone {
     /// A commitment or a raise before the launch.
     #[inline(never)]
-    fn subscribe(
-        &mut self,
-        roll: &mut [Operator],
-        register: &[Object],
-        levy: &Levy,
-    ) -> Result<(), u8> {
+    fn subscribe(&mut self, roll: &mut [Operator], register: &[Object], levy: &Levy) -> Answer {
         self.check_tables(roll, register)?;
         self.check_date(levy.date)?;
-        let addition = self.check_roll(roll, levy.operator, levy.rate, levy.change)?;
-        self.enter(roll, &addition, 0);
+        let (at, tranches) = self.check_roll(roll, levy)?;
+        self.entry(roll, at, levy.operator).tranches[0] += tranches;
         self.last = Some(levy.date);
         Ok(())
     }
 
     #[inline(never)]
-    fn launch(&mut self, roll: &[Operator], register: &[Object], date: u32) -> Result<(), u8> {
+    fn launch(&mut self, roll: &[Operator], register: &[Object], date: u32) -> Answer {
         self.check_tables(roll, register)?;
         self.check_date(date)?;
         self.launched = Some(date);
@@ -522,14 +388,14 @@ impl Zone {
         register: &mut [Object],
         strip: &mut [Line],
         object: Object,
-    ) -> Result<(), u8> {
+    ) -> Answer {
         self.check_tables(roll, register)?;
         self.check_date(object.installed)?;
-        self.check_register(register, object.number, object.dwellings)?;
+        self.check_register(register, &object)?;
         let price = sheet.price(object.kind, object.installed).ok_or(14)?;
         let strip = strip.get_mut(..self.operators).ok_or(16)?;
         for (line, operator) in strip.iter_mut().zip(roll) {
-            let unit = u64::from(price) * u64::from(operator.rate());
+            let unit = u64::from(price) * operator.rate();
             let (number, dwellings) = (object.number, object.dwellings);
             *line = Line::new(Nature::Charge, operator.number, number, unit, dwellings);
         }
@@ -539,8 +405,7 @@ impl Zone {
         Ok(())
     }
 
-    /// A commitment or a raise after the launch: it is billed for each object, and becomes a levy
-    /// if it is accepted.
+    /// A commitment or a raise after the launch: it is billed for each object.
     #[inline(never)]
     fn bill(
         &mut self,
@@ -549,84 +414,42 @@ impl Zone {
         register: &[Object],
         strip: &mut [Line],
         levy: &Levy,
-    ) -> Result<(), u8> {
+    ) -> Answer {
         self.check_tables(roll, register)?;
         self.check_date(levy.date)?;
-        let addition = self.check_roll(roll, levy.operator, levy.rate, levy.change)?;
-        let register = &register[..self.objects];
+        let (_, tranches) = self.check_roll(roll, levy)?;
+        let objects = &register[..self.objects];
+        check_prices(sheet, objects)?;
+        // All is asked of every object before anything is written for one.
         let earlier = |object: &&Object| object.installed < levy.date;
         let coefficient = |object: &Object| sheet.coefficient(object.installed, levy.date);
-        check_prices(sheet, register)?;
-        if !register
-            .iter()
-            .filter(earlier)
-            .all(|object| coefficient(object).is_some())
-        {
-            return Err(15);
+        let mut lines = objects.len();
+        for object in objects.iter().filter(earlier) {
+            refuse_if(coefficient(object).is_none(), 15)?;
+            lines += 1;
         }
-        let lines = register.len() + register.iter().filter(earlier).count();
         let mut places = strip.get_mut(..lines).ok_or(16)?.iter_mut();
-        for object in register {
+        for object in objects {
             let mut write = |nature, unit| {
-                if let Some(place) = places.next() {
-                    *place =
-                        Line::new(nature, levy.operator, object.number, unit, object.dwellings);
-                }
+                let (number, dwellings) = (object.number, object.dwellings);
+                let line = Line::new(nature, levy.operator, number, unit, dwellings);
+                places.next().map(|place| *place = line).ok_or(16)
             };
-            let price = sheet.price(object.kind, object.installed).ok_or(14)?;
-            let plain = u64::from(price) * u64::from(addition.tranches);
+            let plain = plain_price(sheet, object, tranches).ok_or(14)?;
             if earlier(&object) {
-                let Fraction {
-                    numerator,
-                    denominator,
-                } = coefficient(object).ok_or(15)?;
+                let Fraction(numerator, denominator) = coefficient(object).ok_or(15)?;
                 let charge = sheet.rounded(plain * u64::from(numerator), denominator);
-                write(Nature::Charge, charge);
-                write(Nature::Contribution, contribution(sheet, plain));
+                write(Nature::Charge, charge)?;
+                write(Nature::Contribution, contribution(sheet, plain))?;
             } else {
-                write(Nature::Charge, plain);
+                write(Nature::Charge, plain)?;
             }
         }
         self.last = Some(levy.date);
         Ok(())
     }
-}
 
-fn check_prices(sheet: &impl Sheet, register: &[Object]) -> Result<(), u8> {
-    let priced = |object: &Object| sheet.price(object.kind, object.installed).is_some();
-    if register.iter().all(priced) {
-        Ok(())
-    } else {
-        Err(14)
-    }
-}
-
-fn contribution(sheet: &impl Sheet, plain: u64) -> u64 {
-    sheet.rounded(plain * u64::from(sheet.contribution()), 100)
-}
-
-/// What an object of the register contributes in a share-out: nothing if it is of the event's day.
-struct Amounts<'a, S> {
-    sheet: &'a S,
-    date: u32,
-    tranches: u32,
-}
-
-impl<S: Sheet> Amounts<'_, S> {
-    #[inline(always)]
-    fn of(&self, object: &Object) -> u64 {
-        match self.sheet.price(object.kind, object.installed) {
-            Some(price) if object.installed < self.date => {
-                let plain = u64::from(price) * u64::from(self.tranches);
-                contribution(self.sheet, plain) * u64::from(object.dwellings)
-            }
-            _ => 0,
-        }
-    }
-}
-
-/// The share-out of a levy.
-impl Zone {
+    /// The share-out of a levy.
     #[inline(never)]
     fn share_out(
         &mut self,
@@ -635,202 +458,92 @@ impl Zone {
         register: &[Object],
         strip: &mut [Line],
         levy: &Levy,
-    ) -> Result<(), u8> {
+    ) -> Answer {
         self.check_tables(roll, register)?;
-        let addition = self.check_roll(roll, levy.operator, levy.rate, levy.change)?;
-        let register = &register[..self.objects];
-        check_prices(sheet, register)?;
-        let index = self.index(levy.date);
-        let amounts = Amounts {
-            sheet,
-            date: levy.date,
-            tranches: addition.tranches,
+        let (at, tranches) = self.check_roll(roll, levy)?;
+        let objects = &register[..self.objects];
+        check_prices(sheet, objects)?;
+        let amount = |object: &Object| match plain_price(sheet, object, tranches) {
+            Some(plain) if object.installed < levy.date => {
+                contribution(sheet, plain) * u64::from(object.dwellings)
+            }
+            _ => 0,
         };
-        let mut years = [0; YEARS];
-        for (year, weight) in years.iter_mut().enumerate().take(index + 1) {
-            *weight = u16::from(sheet.weight(year));
+        let index = self.index(levy.date);
+        let years: [u32; YEARS] = array::from_fn(|year| u32::from(sheet.weight(year)));
+        let years = &years[..=index];
+        let operators = &mut roll[..self.operators];
+        // The compiler leaves out the row where it is not asked for.
+        let mut row = [0; OPERATORS];
+        if cfg!(row_of_weights) {
+            for (weight, operator) in row.iter_mut().zip(&*operators) {
+                *weight = operator.weight(years);
+            }
         }
-        let counted = &mut roll[..self.operators];
-        let weights = Weights::of(counted, &years);
+        let weight = |at: usize, operator: &Operator| match cfg!(row_of_weights) {
+            true => row[at],
+            false => operator.weight(years),
+        };
         let (mut whole, mut sharers) = (0, 0);
-        for (at, operator) in counted.iter().enumerate() {
-            let weight = weights.one(at, operator);
+        for (at, operator) in operators.iter().enumerate() {
+            let weight = weight(at, operator);
             whole += weight;
             sharers += usize::from(weight > 0);
         }
-        // Only where not every object could have its lines are those counted that will.
-        if strip.len() < sharers * register.len() {
-            let sharing = register.iter().filter(|object| amounts.of(object) > 0);
-            if strip.len() < sharers * sharing.count() {
-                return Err(16);
+        // Lines are counted first, since a refused call writes none.
+        let sharing = objects.iter().filter(|object| amount(object) > 0).count();
+        let mut places = strip.get_mut(..sharing * sharers).ok_or(16)?.iter_mut();
+        let (mut contributed, mut credited) = (0, 0);
+        for object in objects {
+            let amount = amount(object);
+            if amount == 0 {
+                continue;
+            }
+            contributed += amount;
+            for (at, operator) in operators.iter_mut().enumerate() {
+                let weight = weight(at, operator);
+                if weight == 0 {
+                    continue;
+                }
+                let share = sheet.rounded(amount * u64::from(weight), whole);
+                let line = Line::new(Nature::Credit, operator.number, object.number, share, 1);
+                *places.next().ok_or(16)? = line;
+                operator.balance += share;
+                credited += share;
             }
         }
-        let mut shares = Shares {
-            contributed: 0,
-            credited: 0,
-            lines: 0,
-        };
+        // Then no operator weighs anything, so no line was written.
         if whole == 0 {
-            shares.contributed = register.iter().map(|object| amounts.of(object)).sum();
-            self.unshared += shares.contributed;
-        } else {
-            shares.write(
-                &amounts,
-                register,
-                &weights,
-                counted,
-                (whole, sharers),
-                strip,
-            );
+            self.unshared += contributed;
         }
-        self.contributed += shares.contributed;
-        self.credited += shares.credited;
-        self.credit_lines += shares.lines as u64;
-        self.enter(roll, &addition, index);
+        self.contributed += contributed;
+        self.credited += credited;
+        self.credit_lines += (sharing * sharers) as u64;
+        self.entry(roll, at, levy.operator).tranches[index] += tranches;
         Ok(())
     }
 }
 
-/// What a share-out comes to.
-struct Shares {
-    contributed: u64,
-    credited: u64,
-    lines: usize,
+fn check_prices(sheet: &impl Sheet, objects: &[Object]) -> Answer {
+    let priced = |object: &Object| sheet.price(object.kind, object.installed).is_some();
+    objects.iter().all(priced).then_some(()).ok_or(14)
 }
 
-/// The weights of the operators, each worked out when it is asked for.
-#[cfg(not(row_of_weights))]
-struct Weights<'a> {
-    years: &'a [u16; YEARS],
+fn plain_price(sheet: &impl Sheet, object: &Object, tranches: u32) -> Option<u64> {
+    let price = sheet.price(object.kind, object.installed)?;
+    Some(u64::from(price) * u64::from(tranches))
 }
 
-#[cfg(not(row_of_weights))]
-impl<'a> Weights<'a> {
-    fn of(_: &[Operator], years: &'a [u16; YEARS]) -> Weights<'a> {
-        Weights { years }
-    }
-
-    fn one(&self, _: usize, operator: &Operator) -> u32 {
-        operator.weight(self.years)
-    }
-}
-
-/// The weights of the operators, all worked out when a share-out begins.
-#[cfg(row_of_weights)]
-struct Weights {
-    row: [u32; OPERATORS],
-}
-
-#[cfg(row_of_weights)]
-impl Weights {
-    fn of(roll: &[Operator], years: &[u16; YEARS]) -> Weights {
-        let mut row = [0; OPERATORS];
-        for (weight, operator) in row.iter_mut().zip(roll) {
-            *weight = operator.weight(years);
-        }
-        Weights { row }
-    }
-
-    fn one(&self, at: usize, _: &Operator) -> u32 {
-        self.row[at]
-    }
-}
-
-/// An object's contribution that is to be shared.
-#[derive(Clone, Copy)]
-struct Due {
-    amount: u64,
-    object: u32,
-}
-
-/// How many objects are shared out at once: a weight is asked for once for so many, and the lines
-/// of so many stay near the processor.
-const AT_ONCE: usize = 64;
-
-impl Shares {
-    /// The lines of an object stand together, one for each sharer. Here those of one sharer are
-    /// written first, for all objects, and then those of the next: a sharer's weight and balance
-    /// stay in registers, and so does all that the rounding makes of the denominator. This is kept
-    /// apart from its caller so that the innermost loop has the registers to itself.
-    #[inline(never)]
-    fn write<S: Sheet>(
-        &mut self,
-        amounts: &Amounts<S>,
-        register: &[Object],
-        weights: &Weights,
-        roll: &mut [Operator],
-        (whole, sharers): (u32, usize),
-        mut strip: &mut [Line],
-    ) {
-        let none = Due {
-            amount: 0,
-            object: 0,
-        };
-        let mut dues = [none; AT_ONCE];
-        for objects in register.chunks(AT_ONCE) {
-            let mut count = 0;
-            for object in objects {
-                let amount = amounts.of(object);
-                if amount > 0 {
-                    dues[count] = Due {
-                        amount,
-                        object: object.number,
-                    };
-                    count += 1;
-                    self.contributed += amount;
-                }
-            }
-            let (lines, rest) = strip.split_at_mut(count * sharers);
-            strip = rest;
-            self.lines += lines.len();
-            let mut place = 0;
-            for (at, operator) in roll.iter_mut().enumerate() {
-                let weight = u64::from(weights.one(at, operator));
-                if weight == 0 {
-                    continue;
-                }
-                let number = operator.number;
-                let mut credited = 0;
-                for (due, lines) in dues.iter().zip(lines.chunks_exact_mut(sharers)) {
-                    let share = amounts.sheet.rounded(due.amount * weight, whole);
-                    lines[place] = Line::new(Nature::Credit, number, due.object, share, 1);
-                    credited += share;
-                }
-                operator.balance += credited;
-                self.credited += credited;
-                place += 1;
-            }
-        }
-    }
+fn contribution(sheet: &impl Sheet, plain: u64) -> u64 {
+    sheet.rounded(plain * u64::from(sheet.contribution()), 100)
 }
 
 // The file
 
-/// What each byte of a block counts in its check: the powers of 256, the last byte's being 1.
-const POWERS: [u16; CHECKED] = {
-    let mut powers = [1; CHECKED];
-    let mut at = CHECKED - 1;
-    while at > 0 {
-        at -= 1;
-        powers[at] = (powers[at + 1] as u32 * 256 % 65_521) as u16;
-    }
-    powers
-};
-
 fn passes(block: &[u8; BLOCK]) -> bool {
-    // A sum over half a block fits in 32 bits: it is below 255 * 255 * 65,521.
-    let sum = |from: usize| -> u32 {
-        let pairs = block[from..from + CHECKED / 2].iter().zip(&POWERS[from..]);
-        pairs
-            .map(|(&byte, &power)| u32::from(byte) * u32::from(power))
-            .sum()
-    };
-    let whole = u64::from(sum(0)) + u64::from(sum(CHECKED / 2));
-    whole % 65_521 == u64::from(u16::from_be_bytes([block[CHECKED], block[CHECKED + 1]]))
-}
-
-fn number_at(entry: &[u8; ENTRY], at: usize) -> u32 {
-    u32::from_be_bytes([entry[at], entry[at + 1], entry[at + 2], entry[at + 3]])
+    let (checked, check) = block.split_at(CHECKED);
+    let follow = |rest, &byte: &u8| (rest * 256 + u32::from(byte)) % 65_521;
+    checked.iter().fold(0, follow) == u32::from(check[0]) * 256 + u32::from(check[1])
 }
 
 /// What refuses the entry before the zone is asked.
@@ -844,10 +557,8 @@ fn fault(entry: &[u8; ENTRY], after_blank: bool) -> Option<u8> {
     }
     let form_is_wrong = entry[13] > u8::from(letter == b'S');
     let filled_in_vain = letter == b'L' && entry[5..13] != [0; 8];
-    let unprinted = entry[14..]
-        .iter()
-        .fold(false, |found, byte| found | !(b' '..=b'~').contains(byte));
-    (form_is_wrong || filled_in_vain || unprinted).then_some(23)
+    let printed = entry[14..].iter().all(|byte| (b' '..=b'~').contains(byte));
+    (form_is_wrong || filled_in_vain || !printed).then_some(23)
 }
 
 /// What a run lends to the calls: its own tables and strips, of which they know nothing.
@@ -858,131 +569,51 @@ struct Lent<'a> {
     credits: &'a mut [Line],
 }
 
-/// A commitment or a raise. In a launched zone it is billed and at once shared out.
-fn change(
-    zone: &mut Zone,
-    sheet: &impl Sheet,
-    lent: &mut Lent,
-    change: Change,
-    (date, operator, rate): (u32, u32, u32),
-) -> Result<(), u8> {
-    let levy = Levy {
-        date,
-        operator,
-        rate,
-        change,
-    };
-    if zone.launched.is_none() {
-        return zone.subscribe(lent.roll, lent.register, &levy);
-    }
-    if lent.credits.len() < zone.operators * zone.objects {
-        return Err(16);
-    }
-    zone.bill(sheet, lent.roll, lent.register, lent.bill, &levy)?;
-    zone.share_out(sheet, lent.roll, lent.register, lent.credits, &levy)
-}
-
-fn install(
-    zone: &mut Zone,
-    sheet: &impl Sheet,
-    lent: &mut Lent,
-    kind: Kind,
-    (installed, number, dwellings): (u32, u32, u32),
-) -> Result<(), u8> {
-    if zone.launched.is_none() {
-        return Err(24);
-    }
+/// Makes the call that an entry asks for. What is billed is shared out at once.
+fn take(zone: &mut Zone, sheet: &impl Sheet, lent: &mut Lent, entry: &[u8; ENTRY]) -> Answer {
+    let word = |at: usize| u32::from_be_bytes(array::from_fn(|byte| entry[at + byte]));
+    let (date, number, size) = (word(1), word(5), word(9));
     let object = Object {
         number,
-        kind,
-        installed,
-        dwellings,
+        kind: match (entry[0], entry[13]) {
+            (b'P', _) => Kind::Covered,
+            (_, 0) => Kind::Connectable,
+            _ => Kind::ThirdParty,
+        },
+        installed: date,
+        dwellings: size,
     };
-    zone.install(sheet, lent.roll, lent.register, lent.bill, object)
-}
-
-fn launch(zone: &mut Zone, lent: &Lent, date: u32) -> Result<(), u8> {
-    if zone.launched.is_some() {
-        return Err(24);
-    }
-    zone.launch(lent.roll, lent.register, date)
-}
-
-fn take(
-    zone: &mut Zone,
-    sheet: &impl Sheet,
-    lent: &mut Lent,
-    entry: &[u8; ENTRY],
-) -> Result<(), u8> {
-    let numbers = (
-        number_at(entry, 1),
-        number_at(entry, 5),
-        number_at(entry, 9),
-    );
-    match (entry[0], entry[13]) {
-        (b'E', _) => change(zone, sheet, lent, Change::Commitment, numbers),
-        (b'A', _) => change(zone, sheet, lent, Change::Raise, numbers),
-        (b'P', _) => install(zone, sheet, lent, Kind::Covered, numbers),
-        (b'S', 0) => install(zone, sheet, lent, Kind::Connectable, numbers),
-        (b'S', _) => install(zone, sheet, lent, Kind::ThirdParty, numbers),
-        _ => launch(zone, lent, numbers.0),
+    let levy = Levy {
+        date,
+        operator: number,
+        rate: size,
+        change: match entry[0] {
+            b'E' => Change::Commitment,
+            _ => Change::Raise,
+        },
+    };
+    match (entry[0], zone.launched) {
+        (b'L', None) => zone.launch(lent.roll, lent.register, date),
+        (b'L', Some(_)) | (b'P' | b'S', None) => Err(24),
+        (b'P' | b'S', _) => zone.install(sheet, lent.roll, lent.register, lent.bill, object),
+        (_, None) => zone.subscribe(lent.roll, lent.register, &levy),
+        (_, Some(_)) => {
+            refuse_if(lent.credits.len() < zone.operators * zone.objects, 16)?;
+            zone.bill(sheet, lent.roll, lent.register, lent.bill, &levy)?;
+            zone.share_out(sheet, lent.roll, lent.register, lent.credits, &levy)
+        }
     }
 }
 
-/// Runs a file and writes its statement. The sheet, the tables and the strips come out of a black
-/// box, so that no call is made for what this run lends it.
-fn state(data: &[u8], text: &mut Text) {
-    let sheet = black_box(NETWORK);
-    let object = Object {
-        number: 0,
-        kind: Kind::Covered,
-        installed: 0,
-        dwellings: 0,
-    };
-    let line = Line::new(Nature::Charge, 0, 0, 0, 0);
-    let mut roll = [Operator::new(0); OPERATORS];
-    let mut register = [object; REGISTER];
-    let mut strips = [[line; STRIP]; 2];
-    let [bill, credits] = &mut strips;
-    let lent = &mut Lent {
-        roll: black_box(&mut roll[..]),
-        register: black_box(&mut register[..]),
-        bill: black_box(&mut bill[..]),
-        credits: black_box(&mut credits[..]),
-    };
-    let mut zone = Zone {
-        launched: None,
-        last: None,
-        operators: 0,
-        objects: 0,
-        contributed: 0,
-        credited: 0,
-        unshared: 0,
-        credit_lines: 0,
-    };
+/// Takes the entries of a file, and writes each refusal.
+fn run(zone: &mut Zone, sheet: &impl Sheet, lent: &mut Lent, data: &[u8], text: &mut Text) {
     let (blocks, rest) = data.as_chunks::<BLOCK>();
     if data.len() > LONGEST || !rest.is_empty() {
-        text.refusal(19, 0, 0, b"");
-    } else {
-        run(&mut zone, &sheet, lent, blocks, text);
+        return text.refusal(19, 0, 0, b"");
     }
-    for operator in &lent.roll[..zone.operators] {
-        text.operator(operator);
-    }
-    text.totals(&zone);
-}
-
-fn run(
-    zone: &mut Zone,
-    sheet: &impl Sheet,
-    lent: &mut Lent,
-    blocks: &[[u8; BLOCK]],
-    text: &mut Text,
-) {
     for (number, block) in (1..).zip(blocks) {
         if !passes(block) {
-            text.refusal(20, number, 0, b"");
-            return;
+            return text.refusal(20, number, 0, b"");
         }
         let mut after_blank = false;
         for (place, entry) in (1..).zip(block.as_chunks::<ENTRY>().0) {
@@ -995,6 +626,24 @@ fn run(
             }
         }
     }
+}
+
+/// Runs a file and writes its statement. The sheet, the tables and the strips come out of a black
+/// box, so that no call is made for what this run lends it.
+fn state(data: &[u8], text: &mut Text) {
+    let mut lent = Lent {
+        roll: &mut [Operator::new(0); OPERATORS],
+        register: &mut [Object::default(); REGISTER],
+        bill: &mut [Line::default(); STRIP],
+        credits: &mut [Line::default(); STRIP],
+    };
+    let lent = black_box(&mut lent);
+    let mut zone = Zone::default();
+    run(&mut zone, &black_box(NETWORK), lent, data, text);
+    for operator in &lent.roll[..zone.operators] {
+        text.operator(operator);
+    }
+    text.totals(&zone);
 }
 
 // The text
@@ -1039,7 +688,7 @@ impl Text {
 
     fn operator(&mut self, operator: &Operator) {
         self.number(b"OP ", u64::from(operator.number));
-        self.number(b" TRANCHES ", u64::from(operator.rate()));
+        self.number(b" TRANCHES ", operator.rate());
         self.euros(b" BALANCE ", operator.balance);
         self.words(b"\n");
     }
@@ -1049,48 +698,23 @@ impl Text {
         self.euros(b" CREDITED ", zone.credited);
         self.euros(b" UNSHARED ", zone.unshared);
         let given = zone.credited + zone.unshared;
-        let held: &[u8] = if given > zone.contributed {
-            b" HELD -"
-        } else {
-            b" HELD "
-        };
-        self.euros(held, given.abs_diff(zone.contributed));
+        self.words(b" HELD ");
+        if given > zone.contributed {
+            self.words(b"-");
+        }
+        self.euros(b"", given.abs_diff(zone.contributed));
         self.words(b"\n");
     }
 }
 
-/// Fills the room from the input, until it is full or the input ends.
-fn read_into(room: &mut [u8]) -> io::Result<usize> {
-    let mut input = io::stdin().lock();
-    let mut read = 0;
-    while read < room.len() {
-        match input.read(&mut room[read..]) {
-            Ok(0) => break,
-            Ok(more) => read += more,
-            Err(error) if error.kind() == ErrorKind::Interrupted => {}
-            Err(error) => return Err(error),
-        }
-    }
-    Ok(read)
-}
-
-fn print_statement() -> io::Result<()> {
-    let mut text = Text(Vec::new());
+/// An error ends the program with status 1 and a message.
+fn main() -> io::Result<()> {
+    let (mut data, mut text) = (Vec::new(), Text(Vec::new()));
+    data.try_reserve_exact(LONGEST + 1)?;
     text.0.try_reserve_exact(STATEMENT)?;
-    let mut data = [0; LONGEST + 1];
-    let read = read_into(&mut data)?;
-    state(&data[..read], &mut text);
-    let mut output = io::stdout().lock();
-    output.write_all(&text.0)?;
-    output.flush()
-}
-
-fn main() -> ExitCode {
-    match print_statement() {
-        Ok(()) => ExitCode::SUCCESS,
-        Err(error) => {
-            eprintln!("plain: {error}");
-            ExitCode::FAILURE
-        }
-    }
+    let mut input = io::stdin().take(LONGEST as u64 + 1);
+    input.read_to_end(&mut data)?;
+    state(&data, &mut text);
+    io::stdout().write_all(&text.0)?;
+    io::stdout().flush()
 }
