@@ -1,5 +1,5 @@
 // The check of a table: whether it has a place for each counted entry, and those are lawful.
-ghost use Rattle.std.specs.Prelude.{◌≡◌, ℕ, Bool, true, false, IfSome, is_none, length, nat_eq, nat_lt, take};
+ghost use Rattle.std.specs.Prelude.{◌≡◌, ◌<◌, ℕ, Bool, true, false, IfSome, is_none, length, nat_eq, nat_lt, take};
 ghost use Rattle.std.specs.List.{list_any};
 ghost use Rattle.checks.specs.Tables.{is_bad_table, has_number, repeats};
 
@@ -88,19 +88,35 @@ fn any_equal<E: TableEntry>(entries: &[E]) -> bool
     false
 }
 
-// By how much numbers are divided: a prime, so that numbers in steps of some size leave many remainders.
-const DIVISOR: u32 = 2039;
+// By how much the numbers of a table are divided: a prime, so that numbers in steps leave many remainders, and larger where
+// there are more of them.
+const DIVISOR: usize = 2_039;
+const LARGE_DIVISOR: usize = 16_381;
 
-// The same of many entries: from the last one on, notes which remainders were left, and compares a number with all later
-// ones only where its remainder is there already. The row of notes has a place for each remainder, however many entries
-// there are.
+// The most entries for which the smaller one serves.
+const FEW_ENTRIES: usize = 256;
+
+// The same of many entries.
 fn any_equal_of_many<E: TableEntry>(entries: &[E]) -> bool
     ensures value { result ≡ repeats E.numbered entries.now }
 {
-    let mut left = [false; DIVISOR as usize];
+    if entries.len() <= FEW_ENTRIES {
+        any_equal_by_remainder::<E, DIVISOR>(entries)
+    } else {
+        any_equal_by_remainder::<E, LARGE_DIVISOR>(entries)
+    }
+}
+
+// From the last entry on, notes which remainders were left, and compares a number with all later ones only where its
+// remainder is there already. The row of notes has a place for each remainder, however many entries there are.
+fn any_equal_by_remainder<E: TableEntry, const REMAINDERS: usize>(entries: &[E]) -> bool
+    requires { 0 < REMAINDERS }
+    ensures value { result ≡ repeats E.numbered entries.now }
+{
+    let mut left = [false; REMAINDERS];
     for place in (0..entries.len()).rev() {
         let number = entries[place].number();
-        let remainder = (number % DIVISOR) as usize;
+        let remainder = number as usize % REMAINDERS;
         if left[remainder] && has_number(&entries[place + 1..], number) {
             return true;
         }
