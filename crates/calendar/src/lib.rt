@@ -1,12 +1,15 @@
 // Calendar days as decimal numbers yyyymmdd: which are real, the months between two, and the year of a zone's life.
 #![tactic(auto)]
 
-ghost use Rattle.std.specs.Prelude.{◌≡◌, ◌≤◌, T};
+ghost use Rattle.std.specs.Prelude.{◌≡◌, ◌≤◌, T, nat_le};
 ghost use Rattle.calendar.specs.Days.{is_date, month_length, months_between, index_of};
 
 const FIRST_YEAR: u32 = 2008;
 
 const LAST_YEAR: u32 = 2099;
+
+// The days of the shortest month.
+const SHORTEST_MONTH: u32 = 28;
 
 /// Whether a number, written yyyymmdd, is a real calendar day from 20080101 to 20991231.
 pub const fn is_date(number: u32) -> bool
@@ -20,12 +23,20 @@ pub const fn is_date(number: u32) -> bool
         && 1 <= month
         && month <= 12
         && 1 <= day
-        && day <= month_length(year, month)
+        && is_in_month(year, month, day)
+}
+
+// Whether a month has so many days. The length of a month is worked out only for a day that some months have not.
+const fn is_in_month(year: u32, month: u32, day: u32) -> bool
+    ensures value { result ≡ nat_le day (month_length year month) }
+{
+    day <= SHORTEST_MONTH || day <= month_length(year, month)
 }
 
 // The days of a month. Every fourth year from 2008 to 2099 is a leap year.
 const fn month_length(year: u32, month: u32) -> u32
     ensures value { result ≡ month_length year month }
+    ensures least { 28 ≤ result }
 {
     match month {
         2 if year % 4 == 0 => 29,
