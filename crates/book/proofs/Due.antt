@@ -1,15 +1,11 @@
 -- How many lines a share-out writes, as its code counts them.
-use Rattle.std.proofs.Common.{◌≡◌, ℕ, zero, suc, ◌*◌, ◌≤◌, Bool, true, false, cond, List, [], ◌∷◌, length, sym, refl, ap, ◌∙◌, mul_comm, mul-le-mul, zero-mul, arith, flat_map}
+use Rattle.std.proofs.Common.{◌≡◌, ℕ, zero, suc, ◌*◌, ◌≤◌, Bool, true, false, cond, List, [], ◌∷◌, length, refl, ◌∙◌, mul_comm, mul-le-mul, zero-mul, arith, flat_map}
 use Rattle.tariff.specs.Meaning.{Meaning}
 use Rattle.book.specs.Members.{Member, Addition, weight_to, whole_weight}
 use Rattle.book.specs.Sharing.{object_contribution, serves, due, credit, credits}
 use Rattle.book.specs.Increases.{contributing, weighing, lines_shared}
 use Rattle.book.specs.declared.entries.RegisterEntry.{RegisterEntry}
 use Rattle.book.proofs.Totals.{total_same, total_scaled, length_flat_map}
-
--- whether a share is due, by a weight as the code holds it
-pub due_is : (b : Bool) (amount weight own : ℕ) → b ≡ serves amount weight → weight ≡ own → due amount own ≡ cond b 1 0
-due_is b amount weight own tests is = ap (due amount) (sym is) ∙ ap (λ x. cond x 1 0) (sym tests)
 
 one_or_none : {A : Type 0} (b : Bool) (x : A) → length (cond b (x ∷ []) []) ≡ cond b 1 0
 one_or_none true x = refl

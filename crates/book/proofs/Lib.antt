@@ -20,7 +20,6 @@ pub mod Least
 pub mod Rolls
 pub mod Living
 pub mod Soundness
-pub mod Weighing
 pub mod YearSums
 pub mod Writing
 pub mod Charging

@@ -1,10 +1,9 @@
 -- Sums of products over the years.
-use Rattle.std.proofs.Common.{◌≡◌, ℕ, zero, suc, ◌+◌, ◌*◌, ◌<◌, ◌≤◌, Bool, true, ◌&&◌, leb, List, [], ◌∷◌, length, get_or, take, drop, set, replicate, ⊎_elim, sym, refl, ap, ◌∙◌, mul-le-mul_left, mul-le-mul_right, add-mul, arith}
+use Rattle.std.proofs.Common.{◌≡◌, ℕ, zero, suc, ◌+◌, ◌*◌, ◌<◌, ◌≤◌, true, ◌&&◌, leb, List, [], ◌∷◌, length, get_or, take, set, replicate, ⊎_elim, sym, refl, ap, ◌∙◌, mul-le-mul_left, mul-le-mul_right, add-mul, arith}
 use Rattle.std.proofs.lemmas.Bool.{and_parts, leb-true, le-leb, cases_lt}
 use Rattle.std.proofs.lemmas.Bool.Decides.{eqb_tells}
 use Rattle.std.proofs.lemmas.List.{length-set, get_or-set_same, get_or-set_other}
 use Rattle.tariff.specs.Most.{all_at_most}
-use Rattle.book.specs.Lists.{total}
 use Rattle.tariff.specs.Meaning.{Meaning}
 use Rattle.book.specs.Members.{rate_of, weighed, weight_to, whole_weight, members_of}
 use Rattle.book.specs.Weights.{products, AreAsked}

@@ -44,7 +44,8 @@ impl<'a> Object<'a> {
         .unwrap_or(0)
     }
 
-    // What of it goes to the earlier operators; 0 where the question is refused, likewise.
+    // What of it goes to the earlier operators; 0 where the question is refused, likewise. Inlined, so that an increase's day
+    // and tranches are checked once for all objects.
     #[inline(always)]
     pub(crate) fn unit_contribution<T: Tariff>(self, sheet: &T, increase: Increase) -> u64
         ensures value { let o = self.entry.item.now in

@@ -27,7 +27,7 @@ use refusal::Refusal;
 use tariff::questions::{Tariff, YEAR_INDICES};
 use tariff::quotient::Quotient;
 
-// The weight by which an operator shares an amount: nobody shares nothing.
+// The weight by which an operator shares an amount, 0 where there is nothing to share.
 fn weight_for(amount: u64, weights: &YearWeights, tranches: &[u32; YEAR_INDICES]) -> u64
     requires rate { rate_of tranches.now ≤ most_tranches }
     ensures due { (m : Meaning) → AreAsked m weights.now →
@@ -124,7 +124,7 @@ impl<'a> Operators<'a> {
     }
 }
 
-// Counts an amount above 0.
+// 1 for an amount above 0, else 0. A function of its own, so that what it tells is there where the loop goes on.
 const fn one_if_some(amount: u64) -> usize
     ensures number { result ≡ due amount 1 }
     ensures most { result ≤ 1 }
@@ -163,8 +163,8 @@ fn lines_shared<T: Tariff>(
     objects.contributing(sheet, increase) * operators.weighing(&weights)
 }
 
-// A strip with a place for each credit line. One with a place for each object and operator together has them, and then no
-// line is counted.
+// A strip with a place for each credit line. One with a place for each pair of an object and an operator has room, and then
+// no line is counted.
 pub(crate) fn check_room<T: Tariff>(
     sheet: &T,
     increase: Increase,

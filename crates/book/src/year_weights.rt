@@ -1,5 +1,5 @@
-// What a tranche of each year index weighs: asked of a sheet once for a share-out, and kept in a row with a place for each
-// year index.
+// What a tranche of each year index weighs: asked of a sheet once where a share-out is made, not for each operator, and kept
+// in a row with a place for each year index.
 ghost use Rattle.std.specs.Prelude.{◌≡◌, ◌≤◌, true, length};
 ghost use Rattle.tariff.specs.Meaning.{Meaning};
 ghost use Rattle.tariff.specs.Bounds.{most_year_weight};
@@ -9,12 +9,12 @@ ghost use Rattle.checks.specs.Numbers.{most_tranches};
 
 use tariff::questions::{Tariff, YEAR_INDICES};
 
-// The years that most events of a zone reach: up to them fewer products are added.
+// The first year indices of a zone: an event in one of them adds up their products alone.
 const FEW_YEARS: usize = 8;
 
 // The weights of the year indices up to an event's, and 0 after it. Sums go over whole rows of a fixed length, so that a
 // compiler can work out several products at once.
-#[derive(Clone, Copy)]
+#[derive(Drop)]
 pub(crate) struct YearWeights {
     by_index: [u32; YEAR_INDICES],
     index: u32,
@@ -38,7 +38,8 @@ impl YearWeights {
         YearWeights { by_index, index }
     }
 
-    // An operator's tranches by the weight of their years.
+    // An operator's tranches by the weight of their years. Inlined, so that the weights stay in registers from one operator to
+    // the next.
     #[inline(always)]
     pub(crate) fn of_tranches(&self, tranches: &[u32; YEAR_INDICES]) -> u32
         requires rate { rate_of tranches.now ≤ most_tranches }
@@ -53,7 +54,8 @@ impl YearWeights {
         }
     }
 
-    // Tranches times weights, place by place.
+    // Tranches times weights, place by place. Inlined, so that the number of places is known where it is called; a loop over
+    // places, which the sum's bound is stated of.
     #[inline(always)]
     fn products(tranches: &[u32], weights: &[u32]) -> u32
         requires places { length tranches.now ≡ length weights.now }

@@ -3,6 +3,15 @@ ghost use Rattle.std.specs.Prelude.{◌≡◌, ◌<◌, ℕ, Bool, true, false, 
 ghost use Rattle.std.specs.List.{list_any};
 ghost use Rattle.checks.specs.Tables.{is_bad_table, has_number, repeats};
 
+// By how much the numbers of a long table are divided: a prime, so that numbers in most steps leave different remainders. A
+// larger one serves where there are more of them.
+const DIVISOR: usize = 2_039;
+
+const LARGE_DIVISOR: usize = 16_381;
+
+// The most entries for which the smaller one serves.
+const FEW_ENTRIES: usize = 256;
+
 /// An entry of a table: it has a number, and limits of its own.
 pub trait TableEntry {
     ghost numbered: { Self → ℕ };
@@ -29,7 +38,8 @@ pub fn is_bad_table<E: TableEntry>(entries: &[E], counted: usize) -> bool
     any_faulty(entries) || (!rise(entries) && any_equal(entries))
 }
 
-/// The same of a table of many entries: of numbers that do not rise, only those are compared that leave one remainder.
+/// The same of a table of many entries: of numbers that do not rise, only those are compared whose remainders by a fixed
+/// number agree. It notes the remainders in a row as long for any table, which a table of a few entries does without.
 pub fn is_bad_long_table<E: TableEntry>(entries: &[E], counted: usize) -> bool
     ensures value { result ≡ is_bad_table E.numbered E.faulty counted entries.now }
 {
@@ -68,6 +78,7 @@ fn rise<E: TableEntry>(entries: &[E]) -> bool
     entries.is_sorted_by(|entry, next| is_below(entry, next))
 }
 
+// Whether a number is below another: equal ones do not rise.
 fn is_below<E: TableEntry>(entry: &E, next: &E) -> bool
     ensures value { result ≡ nat_lt (E.numbered entry.now) (E.numbered next.now) }
 {
@@ -88,15 +99,7 @@ fn any_equal<E: TableEntry>(entries: &[E]) -> bool
     false
 }
 
-// By how much the numbers of a table are divided: a prime, so that numbers in steps leave many remainders, and larger where
-// there are more of them.
-const DIVISOR: usize = 2_039;
-const LARGE_DIVISOR: usize = 16_381;
-
-// The most entries for which the smaller one serves.
-const FEW_ENTRIES: usize = 256;
-
-// The same of many entries.
+// Whether two of many entries have one number.
 fn any_equal_of_many<E: TableEntry>(entries: &[E]) -> bool
     ensures value { result ≡ repeats E.numbered entries.now }
 {
@@ -107,8 +110,8 @@ fn any_equal_of_many<E: TableEntry>(entries: &[E]) -> bool
     }
 }
 
-// From the last entry on, notes which remainders were left, and compares a number with all later ones only where its
-// remainder is there already. The row of notes has a place for each remainder, however many entries there are.
+// Whether two entries have one number: from the last one on, notes which remainders were left, and compares a number with
+// all later ones only where its remainder is there already. Numbers that all leave one remainder are compared each with each.
 fn any_equal_by_remainder<E: TableEntry, const REMAINDERS: usize>(entries: &[E]) -> bool
     requires { 0 < REMAINDERS }
     ensures value { result ≡ repeats E.numbered entries.now }

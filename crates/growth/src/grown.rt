@@ -124,7 +124,7 @@ impl Lent {
     // So many PMs are opened on one day.
     fn open(
         &mut self,
-        zone: LaunchedZone,
+        mut zone: LaunchedZone,
         sheet: &FlatSheet,
         objects: usize,
         order: Order,
@@ -132,7 +132,6 @@ impl Lent {
         let roll = self.roll.as_slice();
         let register = self.register.as_mut_slice();
         let bill = self.bill.as_mut_slice();
-        let mut zone = zone;
         for place in (1..).take(objects) {
             let (object, dwellings) = (order.number(place), dwellings(place));
             zone = zone

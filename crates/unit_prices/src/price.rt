@@ -69,8 +69,8 @@ pub fn unit_contribution<T: Tariff>(
     }))
 }
 
-// The price of some tranches, and the checks that both amounts share. Inlined, so that what is the same for each dwelling of a
-// bill is checked once.
+// The price of some tranches, and the checks that both amounts share. Inlined, as both amounts are, so that where they are
+// asked for many objects what is the same for all of them is checked once.
 #[inline(always)]
 fn price_of<T: Tariff>(
     sheet: &T,

@@ -1,4 +1,4 @@
-use Rattle.std.proofs.Common.{◌≡◌, ap, ◌∙◌, arith}
+use Rattle.std.proofs.Common.{ap, ◌∙◌, arith}
 use Rattle.std.specs.Result.{result_unwrap_or}
 use Rattle.unit_prices.proofs.Bounds.{unit_most}
 use Rattle.unit_prices.proofs.Checked.{contribution_taken}

@@ -1,5 +1,4 @@
-use Rattle.std.proofs.Common.{◌≡◌, ◌≤◌, ◌∙◌, arith}
-use Rattle.book.specs.Weights.{products}
+use Rattle.std.proofs.Common.{◌∙◌, arith}
 use Rattle.book.proofs.YearSums.{products_part, weight_in_limit, weight_is, weight_is_first}
 use Rattle.book.proofs.year_weights.YearWeights.of_tranches.Goals as goal
 

@@ -1,4 +1,4 @@
-use Rattle.std.proofs.Common.{◌≡◌, ℕ, refl, arith}
+use Rattle.std.proofs.Common.{refl, arith}
 use Rattle.book.proofs.YearSums.{zeros, one_asked}
 use Rattle.book.proofs.year_weights.YearWeights.up_to.Goals as goal
 
