@@ -142,13 +142,21 @@ def ordinary():
     return Life(2010).entries()
 
 
+FILES = (ordinary, early_raises, late_raises, longest)
+
+
 def main():
+    if len(sys.argv) != 2 or sys.argv[1] in ("-h", "--help"):
+        sys.exit("tools/bench/files.py: name the folder to make the files in: python3 tools/bench/files.py FOLDER")
     folder = pathlib.Path(sys.argv[1])
-    folder.mkdir(parents=True, exist_ok=True)
-    for made in (ordinary, early_raises, late_raises, longest):
-        data = blocks(made())
-        assert len(data) == 128 * 512, made.__name__
-        (folder / made.__name__).write_bytes(data)
+    try:
+        folder.mkdir(parents=True, exist_ok=True)
+        for make in FILES:
+            data = blocks(make())
+            assert len(data) == 128 * 512, make.__name__
+            (folder / make.__name__).write_bytes(data)
+    except OSError as error:
+        sys.exit(f"tools/bench/files.py: the files cannot be made in {folder}: {error.strerror}.")
 
 
 if __name__ == "__main__":
