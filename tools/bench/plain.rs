@@ -15,10 +15,10 @@
 //! do the same job faster, alone or together:
 //!
 //! - `--cfg row_of_weights`: a share-out adds all weights up once and keeps them in a row.
-//! - `--cfg quick_check`: numbers that rise are passed over once. Others set bits of a mask of 1,024
-//!   bits, by their remainder, and only a number whose bit is set already is compared with those
-//!   before it: where all numbers leave one remainder this is as slow as each with each. A day up
-//!   to the 28th is a date without the length of its month.
+//! - `--cfg quick_check`: numbers that rise are passed over once. Others set bits of a mask of
+//!   1,024 bits, by their remainder, and only a number whose bit is set already is compared with
+//!   those before it: where all numbers leave one remainder this is as slow as each with each. Up
+//!   to the 28th a day is in any month, so the length of its month is not asked for.
 //!
 //! A third one does less than the rules ask, and only tells what the check takes:
 //!
@@ -668,7 +668,7 @@ fn run(zone: &mut Zone, sheet: &impl Sheet, lent: &mut Lent, data: &[u8], text: 
 }
 
 /// Runs a file and writes its statement. What is lent comes out of a black box: else the compiler
-/// could leave out the lines, which nobody reads, and what checks tables that only the calls fill.
+/// might leave out the lines, which nobody reads, or checks of tables that only the calls fill.
 fn state(data: &[u8], text: &mut Text) {
     let mut lent = Lent {
         roll: &mut [Operator::new(0); OPERATORS],

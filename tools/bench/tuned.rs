@@ -1,15 +1,16 @@
-//! States an event file, as plain.rs does, tuned by hand: it does the whole job and prints the same.
-//! It is for information, and shows what there is to gain where the order of the rules is given up.
+//! States an event file, as plain.rs does, tuned by hand: it does the whole job and prints the
+//! same. It is for information, and shows what there is to gain where the order of the rules is
+//! given up.
 //!
 //!     rustc -O --edition 2021 -o tuned tools/bench/tuned.rs && ./tuned < FILE
 //!
 //! It gives up:
 //!
-//! - The order of the loops. Lines are written operator by operator, for up to 64 objects at a time,
-//!   each in the place that the rules give it. So a weight is added up once for so many objects.
-//! - The plain sums. A weight is added up in 16 bits, which holds only since the tables were checked.
-//!   A sum is rounded by a product with 2^64 / denominator and a step that mends it, in place of a
-//!   division.
+//! - The order of the loops. Lines are written operator by operator, for up to 64 objects at a
+//!   time, each in the place that the rules give it. So a weight is added up once for so many.
+//! - The plain sums. A weight is added up in 16 bits, which holds only since the tables were
+//!   checked. A sum is rounded by a product with 2^64 / denominator and a step that mends it, in
+//!   place of a division.
 //!
 //! It adds:
 //!
@@ -20,7 +21,8 @@
 //!   the check of a block is a sum over the powers of 256.
 //! - A second look at the room: credit lines are counted beforehand only if the strip may be short.
 //!
-//! No call is inlined, and what the sheet answers is hidden from the compiler. plain.rs does neither.
+//! No call is inlined, and what the sheet answers is hidden from the compiler. In plain.rs neither
+//! is so.
 //!
 //! With `--cfg own_tables` no call checks its tables, as if the program owned them. This does less
 //! than the rules ask, and only tells what the check takes.
