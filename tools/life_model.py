@@ -180,7 +180,7 @@ def played(script):
     """The lines that a script prints."""
     life = None
     for text in script:
-        if len(text) > LONGEST:
+        if len(text.encode()) > LONGEST:
             yield "UNREADABLE"
             continue
         words = text.split()

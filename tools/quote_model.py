@@ -217,7 +217,7 @@ def cases():
 def replies(lines):
     desk = Desk()
     for count, line in enumerate(lines, 1):
-        if len(line) > LONGEST:
+        if len(line.encode()) > LONGEST:
             yield f"LINE {count} UNREADABLE: the line is longer than {LONGEST} bytes"
             continue
         words = line.split()

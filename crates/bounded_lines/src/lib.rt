@@ -1,11 +1,11 @@
-// Lines of an input, none of which takes more memory than the longest line.
+// Lines of an input, none of which takes more memory than the longest line and one byte.
 #![tactic(auto)]
 
-ghost use Rattle.std.specs.Prelude.{◌≡◌, [], ◌∷◌, IfOk, OnOk, IfSome, MatchOption, vec_items};
+ghost use Rattle.std.specs.Prelude.{◌≡◌, ◌≤◌, ◌+◌, [], ◌∷◌, IfOk, OnOk, IfSome, MatchOption, vec_items, vec_len};
 ghost use Rattle.std.specs.Option.{option_map};
 ghost use Rattle.std.specs.Io.BufRead.{DropsThrough};
 ghost use Rattle.std.specs.Io.KnownBytes.{Consumes, IsAtEnd};
-ghost use Rattle.bounded_lines.specs.Lines.{line_feed, line_read};
+ghost use Rattle.bounded_lines.specs.Lines.{longest_line, line_feed, line_read};
 
 use std::alloc::Global;
 use std::io;
@@ -22,6 +22,9 @@ pub fn next_line<B: BufRead>(heap: Global, input: &mut B) -> io::Result<Option<V
         (λ given. option_map vec_items found ≡ line_read given)) }
     ensures rest { OnOk result
         (DropsThrough (B.remaining input.old) (B.remaining input.new) line_feed) }
+    // Also of an input whose bytes are not known before they are read.
+    ensures bounded { IfOk result (λ found. IfSome found
+        (λ line. vec_len line ≤ longest_line + 1)) }
 {
     let mut line = Vec::new(heap);
     while line.len() <= LONGEST_LINE {
