@@ -3,7 +3,7 @@ use Rattle.std.specs.Prelude.{ℕ, List, codes}
 use Rattle.std.specs.declared.io.ErrorKind.{ErrorKind}
 use Rattle.std.specs.declared.io.ErrorKind.TheVariants.{NotFound, PermissionDenied, BrokenPipe, WouldBlock, NotADirectory, IsADirectory, FilesystemLoop, StaleNetworkFileHandle, InvalidInput, InvalidData, TimedOut, WriteZero, StorageFull, QuotaExceeded, FileTooLarge, ResourceBusy, InvalidFilename, ConnectionReset, Interrupted, Unsupported}
 
--- The cause by its kind. A kind that reading, writing and opening do not know has no words.
+-- The cause by its kind. A kind that is none of these has no words of its own.
 abbrev pub cause_text : ErrorKind → List ℕ
 cause_text NotFound = codes "no such file or directory"
 cause_text PermissionDenied = codes "permission denied"
@@ -25,4 +25,4 @@ cause_text InvalidFilename = codes "file name too long"
 cause_text ConnectionReset = codes "connection reset"
 cause_text Interrupted = codes "interrupted"
 cause_text Unsupported = codes "not supported"
-cause_text _ = codes "the reason is not known"
+cause_text _ = codes "the system gives another reason"

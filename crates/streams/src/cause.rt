@@ -4,7 +4,7 @@ ghost use Rattle.streams.specs.Causes.{cause_text};
 
 use std::io::ErrorKind;
 
-/// The cause in words that end a sentence. A kind that reading, writing and opening do not know has none.
+/// The cause in words that end a sentence. A kind that is none of these has none of its own.
 pub const fn cause(kind: ErrorKind) -> &'static str
     ensures value { result.now ≡ cause_text kind }
 {
@@ -29,6 +29,6 @@ pub const fn cause(kind: ErrorKind) -> &'static str
         ErrorKind::ConnectionReset => "connection reset",
         ErrorKind::Interrupted => "interrupted",
         ErrorKind::Unsupported => "not supported",
-        _ => "the reason is not known",
+        _ => "the system gives another reason",
     }
 }

@@ -109,7 +109,7 @@ mod tests {
     use super::*;
     use std::test::Fail;
 
-    // The numbers are the system's. Want of memory is told as such, and a number that has no kind by a plain sentence.
+    // The numbers are the system's. Want of memory is told as such, and a number that has no words as another reason.
     #[test]
     fn failures_say_why(rt: HostRuntime) -> Result<(), Fail> {
         let name = String::from_str(rt.alloc(), "zone")?;
@@ -137,7 +137,7 @@ mod tests {
             (Failure::from(AllocError), "there is not enough memory"),
             (
                 Failure::input(io::Error::from_raw_os_error(9)),
-                "the input cannot be read: the reason is not known",
+                "the input cannot be read: the system gives another reason",
             ),
         ];
         for (failure, text) in told {
