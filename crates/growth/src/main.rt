@@ -13,7 +13,6 @@ mod grown;
 use book::limits::MOST_OBJECTS;
 use grown::{Lent, Order};
 use std::env;
-use std::io::ErrorKind;
 use std::process::ExitCode;
 use streams::ending::ended;
 use streams::failure::Failure;
@@ -34,14 +33,13 @@ fn wanted(words: &[String]) -> Option<(usize, Order)> {
     }
 }
 
-fn grow(rt: &HostRuntime) -> Result<(), Failure> {
-    let words: Vec<String> = env::args(rt)
-        .map_err(Failure::arguments)?
-        .skip(1)
-        .collect(rt.alloc())?;
-    let Some((objects, order)) = wanted(words.as_slice()) else {
-        return Err(Failure::Arguments(ErrorKind::InvalidInput));
-    };
+// The words after the program's name.
+fn arguments(rt: &HostRuntime) -> Result<Vec<String>, Failure> {
+    let words = env::args(rt).map_err(Failure::arguments)?.skip(1);
+    Ok(words.collect(rt.alloc())?)
+}
+
+fn grow(rt: &HostRuntime, objects: usize, order: Order) -> Result<(), Failure> {
     let mut lent = Lent::new(rt.alloc())?;
     match lent.grow(objects, order) {
         Ok(grown) => println!(rt; "{grown}").map_err(Failure::output),
@@ -53,5 +51,15 @@ fn grow(rt: &HostRuntime) -> Result<(), Failure> {
 }
 
 fn main(rt: HostRuntime) -> ExitCode {
-    ended(&rt, grow(&rt))
+    let words = match arguments(&rt) {
+        Ok(words) => words,
+        Err(failure) => return ended(&rt, Err(failure)),
+    };
+    let Some((objects, order)) = wanted(words.as_slice()) else {
+        let _ = eprintln!(&rt;
+            "give a number of objects from 1 to {MOST_OBJECTS}, and rising or mixed"
+        );
+        return ExitCode::FAILURE;
+    };
+    ended(&rt, grow(&rt, objects, order))
 }
