@@ -1,31 +1,29 @@
 -- Which remainders the numbers of a list leave: a number whose remainder is not among them is not in the list.
-use Rattle.std.proofs.Common.{◌≡◌, ℕ, zero, suc, ◌+◌, ◌-◌, ◌<◌, ◌≤◌, ◌%◌, Bool, true, false, ◌||◌, eqb, List, [], ◌∷◌, length, get_or, set, take, drop, sym, refl, ap, ◌∙◌, subst, ⊎_elim, arith}
+use Rattle.std.proofs.Common.{◌≡◌, ℕ, zero, suc, ◌+◌, ◌-◌, ◌<◌, ◌≤◌, ◌*◌, ◌%◌, ◌^◌, bit_or, one-mul, Bool, true, false, ◌||◌, eqb, List, [], ◌∷◌, length, get_or, set, take, drop, sym, refl, ap, ◌∙◌, subst, ⊎_elim, arith}
+use Rattle.std.specs.Int.{IsBitSet}
 use Rattle.std.specs.List.{AllByRecursion}
+use Rattle.std.proofs.lemmas.Nat.{and_or_self, and_or_apart, pow_apart, pow_pos}
+use Rattle.std.proofs.Math.Nat.{mod-eq_of_lt}
+use Rattle.std.proofs.Math.Pow.{pow-lt}
 use Rattle.std.proofs.lemmas.List.{get_or-set_same, get_or-set_other, at_drop_more, take_all, length-drop}
 use Rattle.std.proofs.lemmas.Bool.{ne_eqb}
 use Rattle.std.proofs.lemmas.Bool.Decides.{eqb_tells}
 use Rattle.checks.specs.Tables.{has_number, repeats}
 
 module _ {A : Type 0} (number : A → ℕ) (divisor : ℕ) where
-  -- the remainder of each number is noted
-  abbrev pub Noted : List Bool → List A → Type 0
-  Noted left xs = AllByRecursion (λ x. get_or left (number x % divisor) false ≡ true) xs
+  -- the remainder of each number is noted, by what tells that one is
+  abbrev pub Noted : (ℕ → Type 0) → List A → Type 0
+  Noted IsNoted xs = AllByRecursion (λ x. IsNoted (number x % divisor)) xs
 
-  pub not_noted : (left : List Bool) (n : ℕ) (xs : List A) → get_or left (n % divisor) false ≡ false → Noted left xs → has_number number n xs ≡ false
-  not_noted left n [] none all = refl
-  not_noted left n (x ∷ xs) none all =
-      let other : eqb (number x) n ≡ false = ne_eqb (number x) n (λ same. let z : ◌≡◌ {A = Bool} true false = sym all.0 ∙ ap (λ k. get_or left (k % divisor) false) same ∙ none in absurd cc) in
-      ap (λ b. b || has_number number n xs) other ∙ not_noted left n xs none all.1
+  pub not_noted : (IsNoted : ℕ → Type 0) (n : ℕ) (xs : List A) → (IsNoted (n % divisor) → ⊥) → Noted IsNoted xs → has_number number n xs ≡ false
+  not_noted IsNoted n [] none all = refl
+  not_noted IsNoted n (x ∷ xs) none all =
+      let other : eqb (number x) n ≡ false = ne_eqb (number x) n (λ same. none (subst (λ k. IsNoted (k % divisor)) same all.0)) in
+      ap (λ b. b || has_number number n xs) other ∙ not_noted IsNoted n xs none all.1
 
-  still : (left : List Bool) (r s : ℕ) → get_or left s false ≡ true → r < length left → get_or (set left r true) s false ≡ true
-  still left r s noted below = ⊎_elim
-      (λ same. ap (λ k. get_or (set left r true) k false) same.1 ∙ get_or-set_same left r true false below)
-      (λ other. get_or-set_other left r s true false other.1 ∙ noted)
-      (eqb_tells s r)
-
-  all_still : (left : List Bool) (r : ℕ) (xs : List A) → r < length left → Noted left xs → Noted (set left r true) xs
-  all_still left r [] below all = tt
-  all_still left r (x ∷ xs) below all = (still left r (number x % divisor) all.0 below, all_still left r xs below all.1)
+  all_still : (IsNoted Then : ℕ → Type 0) → ((r : ℕ) → IsNoted r → Then r) → (xs : List A) → Noted IsNoted xs → Noted Then xs
+  all_still IsNoted Then still [] all = tt
+  all_still IsNoted Then still (x ∷ xs) all = (still (number x % divisor) all.0, all_still IsNoted Then still xs all.1)
 
   -- one entry more, from the last one on: where its number is not in what follows it
   module _ (xs : List A) (p : ℕ) (x : A) (some : 0 < p) (inside : p ≤ length xs) (is : x ≡ get_or xs (p - 1) x) where
@@ -53,11 +51,35 @@ module _ {A : Type 0} (number : A → ℕ) (divisor : ℕ) where
         later (suc k) [] twice = twice
         later (suc k) (y ∷ ys) twice = ap (λ b. has_number number (number y) ys || b) (later k ys twice) ∙ or_true _
 
-    pub one_more : (left : List Bool) (n : ℕ) → n ≡ number x → has_number number n (drop p xs) ≡ false → repeats number (drop p xs) ≡ false → Noted left (drop p xs) → n % divisor < length left →
-        (repeats number (drop (p - 1) xs) ≡ false) × Noted (set left (n % divisor) true) (drop (p - 1) xs)
-    one_more left n same none once noted below =
-        let none_here = ap (λ k. has_number number k (drop p xs)) (sym same) ∙ none in
-        let noted_here = ap (λ k. get_or (set left (n % divisor) true) (k % divisor) false) (sym same) ∙ get_or-set_same left (n % divisor) true false below in (
+    pub one_more : (IsNoted Then : ℕ → Type 0) → ((r : ℕ) → IsNoted r → Then r) → (n : ℕ) → n ≡ number x → Then (n % divisor) →
+        has_number number n (drop p xs) ≡ false → repeats number (drop p xs) ≡ false → Noted IsNoted (drop p xs) →
+        (repeats number (drop (p - 1) xs) ≡ false) × Noted Then (drop (p - 1) xs)
+    one_more IsNoted Then still n same now none once noted =
+        let none_here = ap (λ k. has_number number k (drop p xs)) (sym same) ∙ none in (
           ap (repeats number) here ∙ ap (λ b. b || repeats number (drop p xs)) none_here ∙ once,
-          subst (Noted (set left (n % divisor) true)) (sym here) (noted_here, all_still left (n % divisor) (drop p xs) below noted),
+          subst (Noted Then) (sym here) (subst (λ k. Then (k % divisor)) same now, all_still IsNoted Then still (drop p xs) noted),
         )
+
+-- noted in a row of flags
+abbrev pub IsFlagged : List Bool → ℕ → Type 0
+IsFlagged flags r = get_or flags r false ≡ true
+
+pub flagged_still : (flags : List Bool) (r s : ℕ) → r < length flags → IsFlagged flags s → IsFlagged (set flags r true) s
+flagged_still flags r s below flagged = ⊎_elim
+    (λ same. ap (λ k. get_or (set flags r true) k false) same.1 ∙ get_or-set_same flags r true false below)
+    (λ other. get_or-set_other flags r s true false other.1 ∙ flagged)
+    (eqb_tells s r)
+
+-- noted in the bits of a number
+pub bit_now : (bits r : ℕ) → IsBitSet (bit_or bits (2 ^ r)) r
+bit_now bits r = λ none. let some = pow_pos r in omega (arith, none, and_or_self (2 ^ r) bits, some)
+
+pub bit_still : (bits r s : ℕ) → IsBitSet bits s → IsBitSet (bit_or bits (2 ^ r)) s
+bit_still bits r s set = ⊎_elim
+    (λ same. subst (IsBitSet (bit_or bits (2 ^ r))) (sym same.1) (bit_now bits r))
+    (λ other. λ none. set (sym (and_or_apart (2 ^ s) bits (2 ^ r) (pow_apart r s (λ e. other.1 (sym e)))) ∙ none))
+    (eqb_tells s r)
+
+-- the bit of a remainder by 64, as the code makes it
+pub bit_is : (r : ℕ) → r < 64 → 1 * 2 ^ r % 18446744073709551616 ≡ 2 ^ r
+bit_is r within = ap (λ b. b % 18446744073709551616) (one-mul (2 ^ r)) ∙ mod-eq_of_lt (pow-lt within)

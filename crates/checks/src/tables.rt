@@ -28,7 +28,7 @@ pub trait TableEntry {
 }
 
 /// Whether a table is shorter than its count, or a counted entry is outside its limits or repeats a
-/// number. For a table of a few entries: numbers that do not rise are compared each with each.
+/// number. For a table of a few entries: of numbers that do not rise, only those are compared whose remainders by 64 agree.
 pub fn is_bad_table<E: TableEntry>(entries: &[E], counted: usize) -> bool
     ensures value { result ≡ is_bad_table E.numbered E.faulty counted entries.now }
 {
@@ -85,16 +85,18 @@ fn is_below<E: TableEntry>(entry: &E, next: &E) -> bool
     entry.number() < next.number()
 }
 
-// Whether two entries have one number: compares each with all later ones.
+// Whether two of a few entries have one number. The remainders that were left are the bits of one number.
 fn any_equal<E: TableEntry>(entries: &[E]) -> bool
     ensures value { result ≡ repeats E.numbered entries.now }
 {
-    let mut rest = entries;
-    while let [first, later @ ..] = rest {
-        if has_number(later, first.number()) {
+    let mut left = 0u64;
+    for place in (0..entries.len()).rev() {
+        let number = entries[place].number();
+        let bit = 1u64 << (number % u64::BITS);
+        if left & bit != 0 && has_number(&entries[place + 1..], number) {
             return true;
         }
-        rest = later;
+        left |= bit;
     }
     false
 }

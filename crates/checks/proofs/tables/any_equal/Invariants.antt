@@ -1,9 +1,11 @@
-use Rattle.std.proofs.Common.{◌≡◌, length}
+use Rattle.std.proofs.Common.{◌≡◌, false, drop}
+use Rattle.std.specs.Int.{IsBitSet}
 use Rattle.checks.specs.Tables.{repeats}
+use Rattle.checks.proofs.Remainders.{Noted}
 use Rattle.checks.proofs.tables.any_equal.Given as goal
 
-abbrev pub invariant-loop-rest : goal.invariant-loop-rest
-invariant-loop-rest g l = repeats g.E.TableEntry.numbered l.rest ≡ repeats g.E.TableEntry.numbered l.entries
-
-abbrev pub decreases-loop-rest : goal.decreases-loop-rest
-decreases-loop-rest g l = length l.rest
+-- the entries from the place on repeat no number, and their remainders are noted
+abbrev pub invariant-loop-place : goal.invariant-loop-place
+invariant-loop-place g l =
+    (repeats g.E.TableEntry.numbered (drop l.place l.entries) ≡ false) ×
+    Noted g.E.TableEntry.numbered 64 (IsBitSet l.left) (drop l.place l.entries)

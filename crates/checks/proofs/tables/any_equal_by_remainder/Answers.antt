@@ -1,7 +1,7 @@
-use Rattle.std.proofs.Common.{◌≡◌, ◌%◌, true, false, drop, sym, ap, ◌∙◌, arith}
-use Rattle.std.proofs.lemmas.List.{length-set}
+use Rattle.std.proofs.Common.{◌≡◌, ◌<◌, ◌%◌, Bool, true, false, length, set, drop, sym, ap, ◌∙◌, arith}
+use Rattle.std.proofs.lemmas.List.{length-set, get_or-set_same}
 use Rattle.checks.specs.Tables.{has_number}
-use Rattle.checks.proofs.Remainders.{not_noted, following, found, one_more}
+use Rattle.checks.proofs.Remainders.{IsFlagged, not_noted, following, found, one_more, flagged_still}
 use Rattle.checks.proofs.tables.any_equal_by_remainder.Given as given
 use Rattle.checks.proofs.tables.any_equal_by_remainder.Goals as goal
 use Rattle.checks.proofs.tables.any_equal_by_remainder.Goals.{Joined-else-left-remainder, else-left-remainder-via-then-left-remainder+else-has_number, else-left-remainder-via-else-left-remainder}
@@ -25,7 +25,8 @@ none_later g c =
       | else-left-remainder-via-then-left-remainder+else-has_number w ↦
           ap (has_number number c.number-number.result) (sym cut) ∙ sym w.has_number.ensures.value ∙ w.if-has_number.false
       | else-left-remainder-via-else-left-remainder w ↦
-          not_noted number g.row.REMAINDERS c.loop-place.left c.number-number.result _ w.if-left-remainder.false c.loop-place.invariant.2
+          not_noted number g.row.REMAINDERS (IsFlagged c.loop-place.left) c.number-number.result _
+          (λ yes. let z : ◌≡◌ {A = Bool} true false = sym yes ∙ w.if-left-remainder.false in absurd cc) c.loop-place.invariant.2
     ]
 
 pub loop-place-preserved : goal.loop-place-preserved
@@ -33,6 +34,10 @@ loop-place-preserved g c =
     let number = g.E.TableEntry.numbered in
     let entries = c.args.entries.now in
     let (places, once, noted) = c.loop-place.invariant in
-    let more = one_more number g.row.REMAINDERS entries c.loop-place.place c.index-entries-place.result c.loop-place-test.true c.loop-place.auto.place c.index-entries-place.is c.loop-place.left
-    _ c.number-number.ensures.value (none_later g c) once noted (omega arith) in
-    (omega (arith, length-set c.loop-place.left (c.number-number.result % g.row.REMAINDERS) true), more.0, more.1)
+    let flags = c.loop-place.left in
+    let remainder = c.number-number.result % g.row.REMAINDERS in
+    let inside : remainder < length flags = omega arith in
+    let more = one_more number g.row.REMAINDERS entries c.loop-place.place c.index-entries-place.result c.loop-place-test.true c.loop-place.auto.place c.index-entries-place.is
+    (IsFlagged flags) (IsFlagged (set flags remainder true)) (λ r. flagged_still flags remainder r inside)
+    _ c.number-number.ensures.value (get_or-set_same flags remainder true false inside) (none_later g c) once noted in
+    (omega (arith, length-set flags remainder true), more.0, more.1)
