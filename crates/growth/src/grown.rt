@@ -142,7 +142,8 @@ impl Lent {
         Ok(zone)
     }
 
-    // An operator takes one tranche more, and its levy is shared out.
+    // An operator takes one tranche more, and its levy is shared out. Kept apart, so that what it takes can be counted.
+    #[inline(never)]
     fn raise(&mut self, zone: LaunchedZone, sheet: &FlatSheet) -> Result<Grown, Refusal> {
         let roll = self.roll.as_mut_slice();
         let register = self.register.as_slice();
