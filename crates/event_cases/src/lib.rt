@@ -12,6 +12,7 @@ mod tests {
     use event_file::fault::Fault;
     use event_file::reader::Reader;
     use std::process::Abort;
+    use std::test::Fail;
 
     // A refusal by its number, and by the numbers of its block and its entry.
     #[derive(Clone, Copy, PartialEq, Eq, Debug)]
@@ -246,6 +247,21 @@ L\x01\x33\xc6\x3f\x00\x00\x00\x00\x00\x00\x00\x00\x00three           ";
             }),
         };
         assert_eq!(rt; tally_of(&file[0..65536]), second_block);
+    }
+
+    // A reader is a value: a copy and a clone of it read on from where it stood, each by itself.
+    #[test]
+    fn copies_read_on(rt: HostRuntime) -> Result<(), Fail> {
+        let block = sample(0, b'E', 64, 212);
+        let mut reader = Reader::open(&block).ok().ok_or("a reader")?;
+        let first = reader.next_entry();
+        let mut copied = reader;
+        let mut cloned = reader.clone()?;
+        let second = reader.next_entry();
+        assert!(&rt; first != second);
+        assert_eq!(&rt; copied.next_entry(), second);
+        assert_eq!(&rt; cloned.next_entry(), second);
+        Ok(())
     }
 
     #[test]

@@ -9,3 +9,4 @@ pub mod Labels
 pub mod Letters
 pub mod Printing
 pub mod Inputs
+pub mod Unread

@@ -6,4 +6,5 @@ pub mod Places
 pub mod Reading
 pub mod Telling
 pub mod Positions
+pub mod Readers
 pub mod Laws

@@ -3,11 +3,7 @@
 --   entry_told    what an entry of a block tells
 --   Item          what a turn of the reading gives: an entry at its place, or a fault
 --   file_read     all that the reading of a file gives, in order
---   Unread        what a reader shows: its file, and what is left of it to read
---   Opened        what opening a file gives
---   Gives         what a turn of a loop over a reader gives, and the reader after it
-use Rattle.std.specs.Prelude.{◌≡◌, ℕ, zero, suc, ◌+◌, ◌*◌, ◌/◌, ◌-◌, ◌≤◌, Bool, true, List, [], ◌∷◌, ◌++◌, length, take, drop, Some, None, Option, Ok, Err, Result}
-use Rattle.std.specs.Iterator.{YieldsFirstBy, Count, item_count}
+use Rattle.std.specs.Prelude.{◌≡◌, ℕ, zero, suc, ◌+◌, ◌*◌, ◌-◌, Bool, true, List, [], ◌∷◌, ◌++◌, length, take, drop, Some, None, Option, Ok, Err, Result}
 use Rattle.std.specs.List.{list_any, range_with_len}
 use Rattle.refusal.specs.declared.Refusal.{Refusal}
 use Rattle.event_file.specs.Blocks.{block_check, block_of, entry_of, file_blocks}
@@ -71,27 +67,11 @@ opened_read bs (Err refusal) = only_fault place.File refusal
 abbrev pub file_read : List ℕ → List Item
 file_read bs = opened_read bs (file_blocks (length bs))
 
-pub record Unread : Type 0 where
-  pub file : List ℕ
-  pub left : List Item
-
--- A reader of a file, with all of it left: 128 blocks of 17 entries at most.
-pub record OpenedAt (bs : List ℕ) (reader : Unread) : Type 0 where
-  pub lawful : file_blocks (length bs) ≡ Ok (length bs / 512)
-  pub file : reader.file ≡ bs
-  pub left : reader.left ≡ file_read bs
-  pub few : length reader.left ≤ 2176
-
 -- A file of a length that no file has is refused as a whole: its fault is all that it gives.
 pub record RefusedWhole (bs : List ℕ) (fault : Fault) : Type 0 where
   pub lawless : file_blocks (length bs) ≡ Err fault.refusal
   pub whole : fault.place ≡ place.File
   pub told : file_read bs ≡ Err fault ∷ []
-
--- A file is opened, or refused as a whole for its length.
-abbrev pub Opened : List ℕ → Result Unread Fault → Type 0
-Opened bs (Ok reader) = OpenedAt bs reader
-Opened bs (Err fault) = RefusedWhole bs fault
 
 -- The program's entry, with its place, as a plain value.
 abbrev pub shown_entry : Result Entry Fault → Item
@@ -127,13 +107,3 @@ LabelIs bs None = Unit {0}
 abbrev pub shown_item : Option (Result Entry Fault) → Option Item
 shown_item (Some r) = Some (shown_entry r)
 shown_item None = None
-
--- A turn of a loop over a reader gives the first of what was left, and the rest is left then.
-pub record Gives (old : Unread) (r : Option (Result Entry Fault)) (new : Unread) : Type 0 where
-  pub answer : YieldsFirstBy shown_entry (λ (u : Unread). u.left) old r new
-  pub kept : new.file ≡ old.file
-  pub label : LabelIs old.file (shown_item r)
-
--- A loop ends with what is left.
-abbrev pub turns_left : Unread → Count
-turns_left reader = item_count (λ (u : Unread). u.left) reader

@@ -1,9 +1,9 @@
 // A file read entry by entry, each block checked before its entries.
-ghost use Rattle.std.specs.Prelude.{◌≡◌, ◌+◌, ◌*◌, ◌/◌, ◌^◌, ◌<◌, drop, length, slice_get};
+ghost use Rattle.std.specs.Prelude.{◌≡◌, ◌+◌, ◌*◌, ◌/◌, ◌^◌, ◌<◌, ◌≤◌, IfOk, drop, length, slice_get};
 ghost use Rattle.event_file.specs.Blocks.{part_of};
 ghost use Rattle.event_file.specs.Entries.{shown_answer};
-ghost use Rattle.event_file.specs.Reading.{Gives, LabelIs, Opened, blank_before, entry_told, placed, shown_entry, shown_step, turns_left};
-ghost use Rattle.event_file.specs.Positions.{check_at};
+ghost use Rattle.event_file.specs.Reading.{LabelIs, blank_before, entry_told, placed, shown_entry, shown_step};
+ghost use Rattle.event_file.specs.Positions.{check_at, places};
 ghost use Rattle.event_file.specs.Laws.{SameEntries};
 
 use crate::block::{BLOCK_BYTES, BLOCK_ENTRIES, blocks_in, check_block};
@@ -11,26 +11,14 @@ use crate::entry::{ENTRY_BYTES, is_blank, read_entry};
 use crate::event::{Entry, FileEvent};
 use crate::fault::{Fault, Place};
 use refusal::Refusal;
-use std::marker::Model;
 
 /// A file, and what is left of it to read. It lends the labels of its events from the file's own bytes.
-#[derive(Drop)]
+#[derive(Clone, Copy)]
 pub struct Reader<'a> {
     bytes: &'a [u8],
     // How many of its entries are passed.
     position: usize,
-}
-
-impl<'a> Model for Reader<'a> {
-    ghost use Rattle.std.specs.Prelude.{◌≤◌};
-    ghost use Rattle.event_file.specs.Reading.{Unread};
-    ghost use Rattle.event_file.specs.Positions.{left_at, places};
-
-    ghost Value = { Unread };
-
-    ghost view = { λ r. record { file = r.bytes.now; left = left_at r.bytes.now r.position } };
-
-    ghost invariant = { λ r. r.position ≤ places r.bytes.now };
+    ghost within: { position ≤ places bytes.now },
 }
 
 // A part of some bytes that are cut into parts of one size, counted from 0.
@@ -94,9 +82,12 @@ fn entry_in(block: &[u8; BLOCK_BYTES], number: usize, place: usize) -> Result<En
 }
 
 impl<'a> Reader<'a> {
+    ghost use Rattle.event_file.specs.Readers.{IsOf, Opened, SameBytes, unread};
+
     /// Opens a file at its first entry, or refuses it as a whole for its length (19).
     pub fn open(bytes: &'a [u8]) -> Result<Reader<'a>, Fault>
         ensures answer { Opened bytes.now result }
+        ensures lent { IfOk result (IsOf bytes.entry) }
     {
         blocks_in(bytes.len()).map_err(|refusal| Fault {
             refusal,
@@ -108,10 +99,11 @@ impl<'a> Reader<'a> {
     /// The next entry, if there is one. An entry is refused by 21, 22 or 23, and the reading goes on after it; a block
     /// that fails its check is refused as a whole (20) and ends the reading.
     pub fn next_entry(&mut self) -> Result<Option<Entry<'a>>, Fault>
-        ensures answer { shown_step result ≡ slice_get self.old.left 0 }
-        ensures left { self.new.left ≡ drop 1 self.old.left }
-        ensures kept { self.new.file ≡ self.old.file }
-        ensures label { LabelIs self.old.file (shown_step result) }
+        ensures answer { shown_step result ≡ slice_get (unread self.old).left 0 }
+        ensures left { (unread self.new).left ≡ drop 1 (unread self.old).left }
+        ensures kept { (unread self.new).file ≡ (unread self.old).file }
+        ensures same { SameBytes self.old self.new }
+        ensures label { LabelIs (unread self.old).file (shown_step result) }
         ensures entries { SameEntries }
     {
         let end = self.bytes.len() / BLOCK_BYTES * BLOCK_ENTRIES;
@@ -136,6 +128,8 @@ impl<'a> Reader<'a> {
 /// `?`.
 impl<'a> Iterator for Reader<'a> {
     type Item = Result<Entry<'a>, Fault>;
+
+    ghost use Rattle.event_file.specs.Readers.{Gives, turns_left};
 
     ghost next_gives = { Gives };
 

@@ -1,5 +1,5 @@
 -- How far a run has come: what it has noted and what is left give the whole.
-use Rattle.std.proofs.Common.{◌≡◌, ℕ, ◌+◌, ◌<◌, ◌≤◌, List, [], ◌∷◌, ◌++◌, length, drop, take, sym, refl, ap, ◌∙◌, append_assoc, append-nil, arith}
+use Rattle.std.proofs.Common.{◌≡◌, ℕ, ◌+◌, ◌<◌, ◌≤◌, List, [], ◌∷◌, ◌++◌, length, drop, take, slice_get, Some, sym, refl, ap, ◌∙◌, append_assoc, append-nil, arith}
 use Rattle.tariff.specs.Meaning.{Meaning}
 use Rattle.event_file.specs.Reading.{Item}
 use Rattle.event_file.specs.Telling.{file_tells, left_to_tell, tells}
@@ -12,6 +12,15 @@ use Rattle.file_run.proofs.Noticing.{lived_on, notices_on, steps_joined}
 first_tells : (left : List Item) → left_to_tell left ≡ left_to_tell (take 1 left) ++ left_to_tell (drop 1 left)
 first_tells [] = refl
 first_tells (item ∷ rest) = ap (λ l. l ++ left_to_tell rest) (sym (append-nil (tells item)))
+
+-- a step that gives something gives the first of what is left
+pub one_left : (left : List Item) (item : Item) → Some item ≡ slice_get left 0 → take 1 left ≡ item ∷ []
+one_left [] item is = cc
+one_left (first ∷ rest) item is = cc
+
+pub some_left : (left : List Item) (item : Item) → Some item ≡ slice_get left 0 → 0 < length left
+some_left [] item is = absurd cc
+some_left (first ∷ rest) item is = omega arith
 
 fewer : (left : List Item) → 0 < length left → length (drop 1 left) + 1 ≡ length left
 fewer [] h = absurd (omega arith)

@@ -1,5 +1,6 @@
 // A file read from its first entry to its last, through the books.
 ghost use Rattle.std.specs.Prelude.{◌≡◌, IfOk, OnOk, drop, map, take};
+ghost use Rattle.event_file.specs.Readers.{SameBytes, unread};
 ghost use Rattle.event_file.specs.Telling.{file_tells, left_to_tell};
 ghost use Rattle.book.specs.Runs.{lived};
 ghost use Rattle.file_run.specs.Reports.{notices as notices_of, steps_told};
@@ -55,12 +56,13 @@ fn advance<'a, T: Tariff>(
     books: &mut Books,
     sheet: &T,
 ) -> Result<Option<()>, Notice<'a>>
-    ensures notices { let told = left_to_tell (take 1 reader.old.left) in
+    ensures notices { let told = left_to_tell (take 1 (unread reader.old).left) in
         noticed result ≡ notices_of (T.meaning sheet.now) (state_of books.old) told }
-    ensures after { let told = left_to_tell (take 1 reader.old.left) in
+    ensures after { let told = left_to_tell (take 1 (unread reader.old).left) in
         state_of books.new ≡ lived (T.meaning sheet.now) (state_of books.old) (steps_told told) }
-    ensures left { reader.new.left ≡ drop 1 reader.old.left }
-    ensures goes { Goes reader.old.left result }
+    ensures left { (unread reader.new).left ≡ drop 1 (unread reader.old).left }
+    ensures same { SameBytes reader.old reader.new }
+    ensures goes { Goes (unread reader.old).left result }
 {
     let Some(
         Entry {
