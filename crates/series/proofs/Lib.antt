@@ -1,3 +1,4 @@
 pub mod Order
+pub mod Judging
 pub mod Last
 pub mod Steady

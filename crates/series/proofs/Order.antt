@@ -1,9 +1,8 @@
 -- Rows that rise, taken apart: a row and the next, the rows after the first, any two rows by their places.
-use Rattle.std.proofs.Common.{◌≡◌, ℕ, zero, suc, ◌<◌, Bool, true, false, ◌&&◌, ltb, List, [], ◌∷◌, length, get_or, sym, refl, ap, ◌∙◌, ⊎_elim, le_of_lt, add-one, arith}
-use Rattle.std.specs.List.{AllAdjacentBelow, IsAllAdjacentAnswer}
+use Rattle.std.proofs.Common.{◌≡◌, ℕ, zero, suc, ◌<◌, true, ltb, List, [], ◌∷◌, length, get_or, refl, le_of_lt, add-one, arith}
 use Rattle.std.specs.List.Sorted.{IsNonDecreasingBy}
 use Rattle.std.proofs.lemmas.List.Sorted.{IsNonDecreasingBy-from_all_adjacent}
-use Rattle.std.proofs.lemmas.Bool.{and_parts, cases_Bool, ltb-true, ltb-false}
+use Rattle.std.proofs.lemmas.Bool.{and_parts, ltb-true}
 use Rattle.series.specs.declared.rows.Dated.{Dated}
 use Rattle.series.specs.Rows.{rising}
 
@@ -22,24 +21,3 @@ next_later (row ∷ (next ∷ rows)) up (suc k) d below = next_later (next ∷ r
 
 pub rises : {V : Type 0} (rows : List (Dated V)) → rising rows ≡ true → IsNonDecreasingBy (λ row. row.date) rows
 rises rows up = IsNonDecreasingBy-from_all_adjacent (λ row. row.date) rows (λ k d below. rw add-one (le_of_lt (next_later rows up k d (omega arith))))
-
--- ---- what a look at each row and the next says
-
-later_each : {V : Type 0} (rows : List (Dated V)) → AllAdjacentBelow (λ (row next : Dated V). true ≡ ltb row.date next.date) rows (length rows) → rising rows ≡ true
-later_each [] later = refl
-later_each (row ∷ []) later = refl
-later_each (row ∷ (next ∷ rows)) later =
-    let first : ltb row.date next.date ≡ true = sym (later 0 row (omega arith)) in
-    let rest : rising (next ∷ rows) ≡ true = later_each (next ∷ rows) (λ k d below. rw add-one (rw add-one at (later (suc k) d (omega arith)))) in
-    ap (λ t. t && rising (next ∷ rows)) first ∙ rest
-
-pub rising_seen : {V : Type 0} (rows : List (Dated V)) (seen : Bool) → IsAllAdjacentAnswer (λ row next b. b ≡ ltb row.date next.date) rows seen → seen ≡ rising rows
-rising_seen rows true later = sym (later_each rows later)
-rising_seen [] false (k, below, fell) = absurd (omega arith)
-rising_seen (row ∷ rows) false (k, below, fell) =
-    let no_later : ltb (get_or (row ∷ rows) k row).date (get_or (row ∷ rows) (suc k) row).date ≡ false = sym (rw add-one at (fell row)) in
-    let not_before = ltb-false (get_or (row ∷ rows) k row).date (get_or (row ∷ rows) (suc k) row).date no_later in
-    ⊎_elim
-    (λ up. let before = next_later (row ∷ rows) up k row (omega arith) in absurd (omega arith))
-    (λ down. sym down)
-    (cases_Bool (rising (row ∷ rows)))

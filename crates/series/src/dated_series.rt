@@ -1,5 +1,6 @@
 // A dated series: how it is filled, which is the only place where rows are judged, and what is in force on a day and before.
 ghost use Rattle.std.specs.Prelude.{◌≡◌, ◌<◌, ◌≤◌, true, false, ◌&&◌, [], length, MatchResult, OnErr, OnOk};
+ghost use Rattle.calendar.specs.Days.{is_date};
 ghost use Rattle.series.specs.Rows.{most_rows, real, rising, within_limits, sound};
 
 use crate::limits::Limited;
@@ -53,32 +54,29 @@ impl<'a, V: Limited> Series<'a, V> {
     }
 }
 
-// Whether rows make a series.
+// Whether rows make a series. Each row is looked at once, from the front, and none after the first that does not stand.
 fn are_sound<V: Limited>(rows: &[Dated<V>]) -> bool
     ensures value { result ≡ sound V.Limited.fits rows.now }
 {
-    rows.len() <= MOST_ROWS && are_real(rows) && rise(rows) && keep_limits(rows)
+    rows.len() <= MOST_ROWS && all_stand(rows)
 }
 
-// Whether every date is a calendar day.
-fn are_real<V>(rows: &[Dated<V>]) -> bool
-    ensures value { result ≡ real rows.now }
+// Whether every date is a calendar day, later than the one before it, and every value keeps the limits of its kind.
+fn all_stand<V: Limited>(rows: &[Dated<V>]) -> bool
+    ensures value { let fits = V.Limited.fits in
+        result ≡ (real rows.now && (rising rows.now && within_limits fits rows.now)) }
 {
-    rows.iter().all(|row| is_date(row.date))
+    let [first, ..] = rows else {
+        return true;
+    };
+    stands(first) && rows.is_sorted_by(|row, next| row.date < next.date && stands(next))
 }
 
-// Whether every date is later than the one before it.
-fn rise<V>(rows: &[Dated<V>]) -> bool
-    ensures value { result ≡ rising rows.now }
+// Whether a date is a calendar day, and its value keeps the limits of its kind.
+fn stands<V: Limited>(row: &Dated<V>) -> bool
+    ensures value { result ≡ (is_date row.now.date && V.Limited.fits row.now.value) }
 {
-    rows.is_sorted_by(|row, next| row.date < next.date)
-}
-
-// Whether every value keeps the limits of its kind.
-fn keep_limits<V: Limited>(rows: &[Dated<V>]) -> bool
-    ensures value { result ≡ within_limits V.Limited.fits rows.now }
-{
-    rows.iter().all(|row| row.value.in_limits())
+    is_date(row.date) && row.value.in_limits()
 }
 
 impl<'a, V: Limited + Copy> Series<'a, V> {
