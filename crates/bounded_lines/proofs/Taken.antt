@@ -1,5 +1,5 @@
--- What is read of an input, byte by byte, is its next line, and what is left comes after the line feed.
-use Rattle.std.proofs.Common.{◌≡◌, ◌≢◌, ℕ, ◌+◌, ◌<◌, ◌≤◌, cond, List, [], ◌∷◌, ◌++◌, All, None, Some, IfSome, length, take, refl, sym, ap, ◌∙◌, arith, take_all, append-nil, ne_eqb, length-append}
+-- What is read of an input, piece by piece, is its next line, and what is left comes after the line feed.
+use Rattle.std.proofs.Common.{◌≡◌, ◌≢◌, ℕ, ◌+◌, ◌<◌, ◌≤◌, cond, List, [], ◌∷◌, ◌++◌, None, Some, IfSome, length, take, refl, sym, ap, ◌∙◌, arith, take_all, append-nil, ne_eqb, length-append}
 use lib.Seq.{take-append_seam}
 use Rattle.std.proofs.lemmas.List.Elements.{All-head, All-tail}
 use Rattle.std.proofs.BufReadLemmas.{drop_through-append}
@@ -7,10 +7,7 @@ use Rattle.std.specs.Prelude.{Option}
 use Rattle.std.specs.Io.KnownBytes.{Consumes, IsAtEnd}
 use Rattle.std.specs.Io.BufRead.{drop_through, DropsThrough}
 use Rattle.bounded_lines.specs.Lines.{longest_line, line_feed, line_of, kept, line_read}
-
--- No line feed is among these bytes.
-abbrev pub Unfed : List ℕ → Type 0
-Unfed line = All (λ b. b ≢ line_feed) line
+use Rattle.bounded_lines.specs.Pieces.{Unfed}
 
 -- The line that was read of known bytes, and what is left of them.
 abbrev pub Reads : Option (List ℕ) → Option (List ℕ) → List ℕ → Type 0

@@ -1,22 +1,25 @@
 // Lines of an input, none of which takes more memory than the longest line and one byte.
 #![tactic(auto)]
 
-ghost use Rattle.std.specs.Prelude.{◌≡◌, ◌≤◌, ◌+◌, [], ◌∷◌, IfOk, OnOk, IfSome, MatchOption, vec_items, vec_len};
+ghost use Rattle.std.specs.Prelude.{◌≡◌, ◌≤◌, ◌+◌, IfOk, OnOk, IfSome, vec_items, vec_len};
 ghost use Rattle.std.specs.Option.{option_map};
 ghost use Rattle.std.specs.Io.BufRead.{DropsThrough};
-ghost use Rattle.std.specs.Io.KnownBytes.{Consumes, IsAtEnd};
 ghost use Rattle.bounded_lines.specs.Lines.{longest_line, line_feed, line_read};
+ghost use Rattle.bounded_lines.specs.Pieces.{IsTaken};
+ghost use Rattle.bounded_lines.specs.declared.Piece.TheVariants.{Line};
 
+use memchr::memchr;
 use std::alloc::Global;
 use std::io;
-use std::io::{BufRead, ErrorKind, Read};
+use std::io::{BufRead, ErrorKind};
 
 /// The most bytes of a line, its line feed not counted.
 pub const LONGEST_LINE: usize = 4_096;
 
 /// The next line of an input without its line feed, or none at the end. A line that is too long is read to its end, and as
 /// much of it is handed out as shows that it is: one byte more than the longest line has. The last line may have no line
-/// feed. After an error what was read of the line is lost.
+/// feed. After an error what was read of the line is lost. An input is at its end where `fill_buf` gives nothing, as it is to
+/// the library's own functions.
 pub fn next_line<B: BufRead>(heap: Global, input: &mut B) -> io::Result<Option<Vec<u8>>>
     ensures line { IfOk result (λ found. IfSome (B.remaining input.old)
         (λ given. option_map vec_items found ≡ line_read given)) }
@@ -27,40 +30,64 @@ pub fn next_line<B: BufRead>(heap: Global, input: &mut B) -> io::Result<Option<V
         (λ line. vec_len line ≤ longest_line + 1)) }
 {
     let mut line = Vec::new(heap);
-    while line.len() <= LONGEST_LINE {
-        match next_byte(input)? {
-            Some(b'\n') => return Ok(Some(line)),
-            Some(byte) => line.push(byte)?,
-            None if line.is_empty() => return Ok(None),
-            None => return Ok(Some(line)),
-        }
-    }
-    input.skip_until(b'\n')?;
-    Ok(Some(line))
-}
-
-// The next byte, or none at the end. A read that a signal interrupts is made again.
-fn next_byte<R: Read>(input: &mut R) -> io::Result<Option<u8>>
-    ensures value { IfOk result (λ next. MatchOption next
-        (Consumes (R.remaining input.old) (R.remaining input.new) [] × IsAtEnd (R.remaining input.new))
-        (λ byte. Consumes (R.remaining input.old) (R.remaining input.new) (byte ∷ []))) }
-{
-    let mut one = [0u8; 1];
     for _ in 0..u64::MAX {
-        match input.read(&mut one) {
-            Ok(0) => return Ok(None),
-            Ok(_) => return Ok(Some(one[0])),
-            Err(error) if error.kind() == ErrorKind::Interrupted => {}
-            Err(error) => return Err(error),
+        match take_piece(input, &mut line)? {
+            Piece::Line => return Ok(Some(line)),
+            Piece::End if line.is_empty() => return Ok(None),
+            Piece::End => return Ok(Some(line)),
+            Piece::Part if line.len() > LONGEST_LINE => {
+                input.skip_until(b'\n')?;
+                return Ok(Some(line));
+            }
+            Piece::Part => {}
         }
     }
     Err(ErrorKind::Interrupted.into())
 }
 
+// What a piece of an input had of a line.
+#[derive(Clone, Copy)]
+enum Piece {
+    // All that was left of it, and its line feed.
+    Line,
+    // Some of it, or nothing where a signal interrupted the read.
+    Part,
+    // Nothing, since the input is at its end.
+    End,
+}
+
+// Adds to a line what the piece in memory has of it, as far as shows that it is too long, and takes that from the input.
+fn take_piece<B: BufRead>(input: &mut B, line: &mut Vec<u8>) -> io::Result<Piece>
+    requires short { vec_len line.old ≤ longest_line }
+    ensures taken { IfOk result
+        (IsTaken (B.remaining input.old) (B.remaining input.new) line.old.items line.new.items) }
+    ensures whole { IfOk result (λ taken. taken ≡ Line → vec_len line.new ≤ longest_line) }
+    ensures bounded { OnOk result (vec_len line.new ≤ longest_line + 1) }
+{
+    let piece = match input.fill_buf() {
+        Ok(piece) => piece,
+        Err(error) if error.kind() == ErrorKind::Interrupted => return Ok(Piece::Part),
+        Err(error) => return Err(error),
+    };
+    if piece.is_empty() {
+        return Ok(Piece::End);
+    }
+    let reach = piece.len().min(LONGEST_LINE + 1 - line.len());
+    let front = &piece[..reach];
+    if let Some(end) = memchr(b'\n', front) {
+        line.extend_from_slice(&front[..end])?;
+        input.consume(end + 1);
+        return Ok(Piece::Line);
+    }
+    line.extend_from_slice(front)?;
+    input.consume(reach);
+    Ok(Piece::Part)
+}
+
 #[cfg(test)]
 mod tests {
     use super::*;
-    use std::io::{BufReader, Error};
+    use std::io::{BufReader, Error, Read};
     use std::test::Fail;
 
     // An input that gives a byte at a time, is interrupted before each, and fails at its end if it is to.
@@ -120,6 +147,32 @@ mod tests {
         }
         let last = next_line(rt.alloc(), &mut input)?.ok_or("a last line")?;
         assert_eq!(&rt; last.len(), 4_097);
+        assert!(&rt; next_line(rt.alloc(), &mut input)?.is_none());
+        Ok(())
+    }
+
+    // The same of an input that is in memory, where a line is seen whole: of the limit and one over, before and after a
+    // short one.
+    #[test]
+    fn long_lines_are_cut_in_memory(rt: HostRuntime) -> Result<(), Fail> {
+        let lengths = [
+            (4_096, 4_096),
+            (3, 3),
+            (4_097, 4_097),
+            (0, 0),
+            (12_288, 4_097),
+            (1, 1),
+        ];
+        let mut bytes = Vec::new(rt.alloc());
+        for (length, _) in lengths {
+            bytes.resize(bytes.len() + length, b'x')?;
+            bytes.push(b'\n')?;
+        }
+        let mut input = bytes.as_slice();
+        for (length, kept) in lengths {
+            let line = next_line(rt.alloc(), &mut input)?.ok_or("a line")?;
+            assert_eq!(&rt; line.len(), kept, "of {length} bytes");
+        }
         assert!(&rt; next_line(rt.alloc(), &mut input)?.is_none());
         Ok(())
     }

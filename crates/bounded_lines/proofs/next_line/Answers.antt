@@ -1,28 +1,36 @@
-use Rattle.std.proofs.Common.{[], ◌∷◌, rules, subst}
-use Rattle.std.specs.Io.KnownBytes.{Consumes, IsAtEnd}
-use Rattle.bounded_lines.proofs.Taken.{fed, ended, skipped}
+use Rattle.std.proofs.Common.{◌≡◌, [], ◌∷◌, Some, IfSome, vec_items, sym, subst, rules}
+use Rattle.bounded_lines.specs.Lines.{line_feed, line_read}
+use Rattle.bounded_lines.specs.Pieces.{AtEnd, Took}
+use Rattle.bounded_lines.proofs.Taken.{skipped}
+use Rattle.bounded_lines.proofs.Pieces.{end_taken, line_taken, part_taken, unfed_after}
 use Rattle.bounded_lines.proofs.next_line.Goals as goal
 
-pub returns-in-Some-eq10 : goal.returns-in-Some-eq10
-returns-in-Some-eq10 g c =
-    let before = g.B.Read.remaining c.loop-input.input in
-    let after = g.B.Read.remaining c.next_byte.new.input in
-    let byte : Consumes before after (c.in-Some-eq10.field-0 ∷ []) =
-    rw c.in-Some-eq10.is at c.in_ok-next_byte.ensures.value in
-    let feed = subst (λ b. Consumes before after (b ∷ [])) c.in-Some-eq10.field-0-test byte in
-    let read = fed _ before after _ c.loop-input.invariant.1 c.loop-input.invariant.2 feed (search rules) in
+pub returns-in-Line : goal.returns-in-Line
+returns-in-Line g c =
+    let before = g.B.Read.remaining c.loop.input in
+    let after = g.B.Read.remaining c.take_piece.new.input in
+    let took : Took before after (vec_items c.loop.line) (vec_items c.take_piece.new.line) (line_feed ∷ []) =
+    rw c.in-Line.is at c.in_ok-take_piece.ensures.taken in
+    let read = line_taken _ before after _ _ c.loop.invariant.1 c.loop.invariant.2 took (search rules) in
     record { line = read.0; rest = read.1; bounded = search rules }
 
-pub returns-in-None-2 : goal.returns-in-None-2
-returns-in-None-2 g c =
-    let before = g.B.Read.remaining c.loop-input.input in
-    let after = g.B.Read.remaining c.next_byte.new.input in
-    let none : Consumes before after [] × IsAtEnd after =
-    rw c.in-None-2.is at c.in_ok-next_byte.ensures.value in
-    let read = ended _ before after _ c.loop-input.invariant.1 c.loop-input.invariant.2 none.0 none.1 (search rules) (search rules) in
-    record { line = read.0; rest = read.1; bounded = search rules }
+pub returns-in-End-2 : goal.returns-in-End-2
+returns-in-End-2 g c =
+    let before = g.B.Read.remaining c.loop.input in
+    let after = g.B.Read.remaining c.take_piece.new.input in
+    let ended : AtEnd before after (vec_items c.loop.line) (vec_items c.take_piece.new.line) =
+    rw c.in-End-2.is at c.in_ok-take_piece.ensures.taken in
+    let read = end_taken _ before after _ c.loop.invariant.1 c.loop.invariant.2 ended.kept ended.none (search rules) (search rules) in
+    let line = subst (λ l. IfSome (g.B.Read.remaining c.args.input.now) (λ given. Some l ≡ line_read given)) (sym ended.same) read.0 in
+    record { line = line; rest = read.1; bounded = search rules }
 
-pub returns : goal.returns
-returns g c =
-    let read = skipped _ _ _ _ c.loop-input.invariant.1 c.loop-input.invariant.2 c.in_ok-skip_until.ensures.rest (search rules) in
+pub returns-in-Part : goal.returns-in-Part
+returns-in-Part g c =
+    let before = g.B.Read.remaining c.loop.input in
+    let after = g.B.Read.remaining c.take_piece.new.input in
+    let took : Took before after (vec_items c.loop.line) (vec_items c.take_piece.new.line) [] =
+    rw c.in-Part.is at c.in_ok-take_piece.ensures.taken in
+    let none = unfed_after _ before after _ _ [] c.loop.invariant.1 c.loop.invariant.2 took in
+    let taken = part_taken _ before after _ _ c.loop.invariant.1 c.loop.invariant.2 took in
+    let read = skipped _ after _ _ none taken c.in_ok-skip_until-in-Part.ensures.rest (search rules) in
     record { line = read.0; rest = read.1; bounded = search rules }
