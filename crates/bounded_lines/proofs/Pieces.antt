@@ -8,7 +8,7 @@ use Rattle.std.specs.Io.KnownBytes.{Consumes, Keeps}
 use Rattle.memchr.specs.Find.{IsFirstByte, is_byte}
 use Rattle.bounded_lines.specs.Lines.{longest_line, line_feed}
 use Rattle.bounded_lines.specs.Pieces.{AtEnd, Took, Unfed}
-use Rattle.bounded_lines.proofs.Taken.{Reads, ended, fed}
+use Rattle.bounded_lines.proofs.Lines.{Reads, fed}
 
 -- Bytes that are consumed after others.
 consumed : (a b c : Option (List ℕ)) (xs ys : List ℕ) → Consumes a b xs → Consumes b c ys → Consumes a c (xs ++ ys)
@@ -16,13 +16,6 @@ consumed None b c xs ys p q = tt
 consumed (Some x) None c xs ys p q = absurd p
 consumed (Some x) (Some y) None xs ys p q = absurd q
 consumed (Some x) (Some y) (Some z) xs ys p q = p ∙ ap (λ l. xs ++ l) q ∙ sym (append_assoc xs ys z)
-
--- A line and its line feed that are consumed.
-fed_at_once : (a c : Option (List ℕ)) (line : List ℕ) → Unfed line → Consumes a c (line ++ (line_feed ∷ [])) → length line ≤ longest_line → Reads a c line
-fed_at_once None c line none p short = (tt, tt)
-fed_at_once (Some x) None line none p short = absurd p
-fed_at_once (Some x) (Some z) line none p short =
-    fed (Some x) (Some (line_feed ∷ z)) (Some z) line none (p ∙ append_assoc line (line_feed ∷ []) z) refl short
 
 -- a line so far, and what is taken next
 module _ (a b c : Option (List ℕ)) (line after ends : List ℕ) (none : Unfed line) (before : Consumes a b line) (took : Took b c line after ends) where
@@ -37,7 +30,7 @@ module _ (a b c : Option (List ℕ)) (line after ends : List ℕ) (none : Unfed 
 pub line_taken : (a b c : Option (List ℕ)) (line after : List ℕ) → Unfed line → Consumes a b line → Took b c line after (line_feed ∷ []) → length after ≤ longest_line → Reads a c after
 line_taken a b c line after none before took short =
     let ends = line_feed ∷ [] in
-    fed_at_once a c after (unfed_after a b c line after ends none before took) (consumed_after a b c line after ends none before took) short
+    fed a c after (unfed_after a b c line after ends none before took) (consumed_after a b c line after ends none before took) short
 
 pub part_taken : (a b c : Option (List ℕ)) (line after : List ℕ) → Unfed line → Consumes a b line → Took b c line after [] → Consumes a c after
 part_taken a b c line after none before took =
@@ -79,11 +72,3 @@ module _ (piece : List ℕ) (n : ℕ) (nowhere : IsFirstByte (is_byte line_feed)
 pub at_end : (a c : Option (List ℕ)) (shown line : List ℕ) → length shown ≡ 0 → IfSome a (λ xs. length shown ≡ 0 → xs ≡ []) → Keeps a c → AtEnd a c line line
 at_end None c shown line none end kept = record { same = refl; kept = kept; none = tt }
 at_end (Some x) c shown line none end kept = record { same = refl; kept = kept; none = end none }
-
--- a line that the input's end ends
-pub end_taken : (a b c : Option (List ℕ)) (line : List ℕ) → Unfed line → Consumes a b line → Keeps b c → IfSome b (λ left. left ≡ []) → 0 < length line → length line ≤ longest_line → Reads a c line
-end_taken None b c line none p kept end some short = (tt, tt)
-end_taken (Some x) None c line none p kept end some short = absurd p
-end_taken (Some x) (Some y) None line none p kept end some short = absurd kept
-end_taken (Some x) (Some y) (Some z) line none p kept end some short =
-    ended (Some x) (Some y) (Some z) line none p (sym kept) (kept ∙ end) some short

@@ -6,8 +6,8 @@
 use Rattle.std.specs.Prelude.{◌≡◌, ◌≢◌, ℕ, List, [], ◌∷◌, ◌++◌, All, Option, IfSome}
 use Rattle.std.specs.Io.KnownBytes.{Consumes, Keeps}
 use Rattle.bounded_lines.specs.Lines.{line_feed}
-use Rattle.bounded_lines.specs.declared.Piece.{Piece}
-use Rattle.bounded_lines.specs.declared.Piece.TheVariants.{Line, Part, End}
+use Rattle.bounded_lines.specs.declared.Taken.{Taken}
+use Rattle.bounded_lines.specs.declared.Taken.TheVariants.{Line, Part, End}
 
 -- No line feed is among these bytes.
 abbrev pub Unfed : List ℕ → Type 0
@@ -27,7 +27,7 @@ pub record AtEnd (old new : Option (List ℕ)) (before after : List ℕ) : Type 
   pub none : IfSome old (λ left. left ≡ [])
 
 -- A line goes up to its line feed, which is taken and not kept; a part of it has none.
-abbrev pub IsTaken : Option (List ℕ) → Option (List ℕ) → List ℕ → List ℕ → Piece → Type 0
+abbrev pub IsTaken : Option (List ℕ) → Option (List ℕ) → List ℕ → List ℕ → Taken → Type 0
 IsTaken old new before after Line = Took old new before after (line_feed ∷ [])
 IsTaken old new before after Part = Took old new before after []
 IsTaken old new before after End = AtEnd old new before after

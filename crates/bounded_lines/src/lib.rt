@@ -6,7 +6,7 @@ ghost use Rattle.std.specs.Option.{option_map};
 ghost use Rattle.std.specs.Io.BufRead.{DropsThrough};
 ghost use Rattle.bounded_lines.specs.Lines.{longest_line, line_feed, line_read};
 ghost use Rattle.bounded_lines.specs.Pieces.{IsTaken};
-ghost use Rattle.bounded_lines.specs.declared.Piece.TheVariants.{Line};
+ghost use Rattle.bounded_lines.specs.declared.Taken.TheVariants.{Line};
 
 use memchr::memchr;
 use std::alloc::Global;
@@ -32,22 +32,22 @@ pub fn next_line<B: BufRead>(heap: Global, input: &mut B) -> io::Result<Option<V
     let mut line = Vec::new(heap);
     for _ in 0..u64::MAX {
         match take_piece(input, &mut line)? {
-            Piece::Line => return Ok(Some(line)),
-            Piece::End if line.is_empty() => return Ok(None),
-            Piece::End => return Ok(Some(line)),
-            Piece::Part if line.len() > LONGEST_LINE => {
+            Taken::Line => return Ok(Some(line)),
+            Taken::End if line.is_empty() => return Ok(None),
+            Taken::End => return Ok(Some(line)),
+            Taken::Part if line.len() > LONGEST_LINE => {
                 input.skip_until(b'\n')?;
                 return Ok(Some(line));
             }
-            Piece::Part => {}
+            Taken::Part => {}
         }
     }
     Err(ErrorKind::Interrupted.into())
 }
 
-// What a piece of an input had of a line.
+// What was taken of a line from a piece of its input.
 #[derive(Clone, Copy)]
-enum Piece {
+enum Taken {
     // All that was left of it, and its line feed.
     Line,
     // Some of it, or nothing where a signal interrupted the read.
@@ -57,7 +57,7 @@ enum Piece {
 }
 
 // Adds to a line what the piece in memory has of it, as far as shows that it is too long, and takes that from the input.
-fn take_piece<B: BufRead>(input: &mut B, line: &mut Vec<u8>) -> io::Result<Piece>
+fn take_piece<B: BufRead>(input: &mut B, line: &mut Vec<u8>) -> io::Result<Taken>
     requires short { vec_len line.old ≤ longest_line }
     ensures taken { IfOk result
         (IsTaken (B.remaining input.old) (B.remaining input.new) line.old.items line.new.items) }
@@ -66,22 +66,22 @@ fn take_piece<B: BufRead>(input: &mut B, line: &mut Vec<u8>) -> io::Result<Piece
 {
     let piece = match input.fill_buf() {
         Ok(piece) => piece,
-        Err(error) if error.kind() == ErrorKind::Interrupted => return Ok(Piece::Part),
+        Err(error) if error.kind() == ErrorKind::Interrupted => return Ok(Taken::Part),
         Err(error) => return Err(error),
     };
     if piece.is_empty() {
-        return Ok(Piece::End);
+        return Ok(Taken::End);
     }
     let reach = piece.len().min(LONGEST_LINE + 1 - line.len());
     let front = &piece[..reach];
     if let Some(end) = memchr(b'\n', front) {
         line.extend_from_slice(&front[..end])?;
         input.consume(end + 1);
-        return Ok(Piece::Line);
+        return Ok(Taken::Line);
     }
     line.extend_from_slice(front)?;
     input.consume(reach);
-    Ok(Piece::Part)
+    Ok(Taken::Part)
 }
 
 #[cfg(test)]

@@ -1,8 +1,8 @@
 use Rattle.std.proofs.Common.{◌≡◌, [], ◌∷◌, Some, IfSome, vec_items, sym, subst, rules}
 use Rattle.bounded_lines.specs.Lines.{line_feed, line_read}
 use Rattle.bounded_lines.specs.Pieces.{AtEnd, Took}
-use Rattle.bounded_lines.proofs.Taken.{skipped}
-use Rattle.bounded_lines.proofs.Pieces.{end_taken, line_taken, part_taken, unfed_after}
+use Rattle.bounded_lines.proofs.Lines.{ended, skipped}
+use Rattle.bounded_lines.proofs.Pieces.{line_taken, part_taken, unfed_after}
 use Rattle.bounded_lines.proofs.next_line.Goals as goal
 
 pub returns-in-Line : goal.returns-in-Line
@@ -18,10 +18,10 @@ pub returns-in-End-2 : goal.returns-in-End-2
 returns-in-End-2 g c =
     let before = g.B.Read.remaining c.loop.input in
     let after = g.B.Read.remaining c.take_piece.new.input in
-    let ended : AtEnd before after (vec_items c.loop.line) (vec_items c.take_piece.new.line) =
+    let last : AtEnd before after (vec_items c.loop.line) (vec_items c.take_piece.new.line) =
     rw c.in-End-2.is at c.in_ok-take_piece.ensures.taken in
-    let read = end_taken _ before after _ c.loop.invariant.1 c.loop.invariant.2 ended.kept ended.none (search rules) (search rules) in
-    let line = subst (λ l. IfSome (g.B.Read.remaining c.args.input.now) (λ given. Some l ≡ line_read given)) (sym ended.same) read.0 in
+    let read = ended _ before after _ c.loop.invariant.1 c.loop.invariant.2 last.kept last.none (search rules) (search rules) in
+    let line = subst (λ l. IfSome (g.B.Read.remaining c.args.input.now) (λ given. Some l ≡ line_read given)) (sym last.same) read.0 in
     record { line = line; rest = read.1; bounded = search rules }
 
 pub returns-in-Part : goal.returns-in-Part

@@ -1,10 +1,10 @@
 -- What is read of an input, piece by piece, is its next line, and what is left comes after the line feed.
-use Rattle.std.proofs.Common.{◌≡◌, ◌≢◌, ℕ, ◌+◌, ◌<◌, ◌≤◌, cond, List, [], ◌∷◌, ◌++◌, None, Some, IfSome, length, take, refl, sym, ap, ◌∙◌, arith, take_all, append-nil, ne_eqb, length-append}
+use Rattle.std.proofs.Common.{◌≡◌, ◌≢◌, ℕ, ◌+◌, ◌<◌, ◌≤◌, cond, List, [], ◌∷◌, ◌++◌, None, Some, IfSome, length, take, refl, sym, ap, ◌∙◌, arith, take_all, append_assoc, append-nil, ne_eqb, length-append}
 use lib.Seq.{take-append_seam}
 use Rattle.std.proofs.lemmas.List.Elements.{All-head, All-tail}
 use Rattle.std.proofs.BufReadLemmas.{drop_through-append}
 use Rattle.std.specs.Prelude.{Option}
-use Rattle.std.specs.Io.KnownBytes.{Consumes, IsAtEnd}
+use Rattle.std.specs.Io.KnownBytes.{Consumes, Keeps}
 use Rattle.std.specs.Io.BufRead.{drop_through, DropsThrough}
 use Rattle.bounded_lines.specs.Lines.{longest_line, line_feed, line_of, kept, line_read}
 use Rattle.bounded_lines.specs.Pieces.{Unfed}
@@ -39,14 +39,13 @@ line_read-front given line rest is some none whole =
 kept-whole : (line : List ℕ) → length line ≤ longest_line → kept (line ++ []) ≡ line
 kept-whole line short = ap kept (append-nil line) ∙ take_all (longest_line + 1) line (omega (arith, short))
 
--- A line up to its line feed.
-pub fed : (a b c : Option (List ℕ)) (line : List ℕ) → Unfed line → Consumes a b line
-    → Consumes b c (line_feed ∷ []) → length line ≤ longest_line → Reads a c line
-fed None b c line none p q short = (tt, tt)
-fed (Some x) None c line none p q short = absurd p
-fed (Some x) (Some y) None line none p q short = absurd q
-fed (Some x) (Some y) (Some z) line none p q short =
-    let is : x ≡ line ++ (line_feed ∷ z) = p ∙ ap (λ l. line ++ l) q in
+-- A line and its line feed.
+pub fed : (a c : Option (List ℕ)) (line : List ℕ) → Unfed line → Consumes a c (line ++ (line_feed ∷ []))
+    → length line ≤ longest_line → Reads a c line
+fed None c line none p short = (tt, tt)
+fed (Some x) None line none p short = absurd p
+fed (Some x) (Some z) line none p short =
+    let is : x ≡ line ++ (line_feed ∷ z) = p ∙ append_assoc line (line_feed ∷ []) z in
     let some : 0 < length x = omega (arith, ap length is, length-append line (line_feed ∷ z)) in (
       line_read-front x line (line_feed ∷ z) is some none (kept-whole line short),
       ap Some (sym (ap (drop_through line_feed) is ∙ drop_through-append line_feed line (line_feed ∷ z) none)),
@@ -54,15 +53,15 @@ fed (Some x) (Some y) (Some z) line none p q short =
 
 -- A line that the input ends.
 pub ended : (a b c : Option (List ℕ)) (line : List ℕ) → Unfed line → Consumes a b line
-    → Consumes b c [] → IsAtEnd c → 0 < length line → length line ≤ longest_line → Reads a c line
-ended None b c line none p q end some short = (tt, tt)
-ended (Some x) None c line none p q end some short = absurd p
-ended (Some x) (Some y) None line none p q end some short = absurd q
-ended (Some x) (Some y) (Some z) line none p q end some short =
-    let is : x ≡ line ++ [] = p ∙ ap (λ l. line ++ l) (q ∙ end) in
+    → Keeps b c → IfSome b (λ left. left ≡ []) → 0 < length line → length line ≤ longest_line → Reads a c line
+ended None b c line none p kept end some short = (tt, tt)
+ended (Some x) None c line none p kept end some short = absurd p
+ended (Some x) (Some y) None line none p kept end some short = absurd kept
+ended (Some x) (Some y) (Some z) line none p kept end some short =
+    let is : x ≡ line ++ [] = p ∙ ap (λ l. line ++ l) end in
     let long : 0 < length x = omega (arith, ap length is, length-append line [], some) in (
       line_read-front x line [] is long none (kept-whole line short),
-      ap Some (end ∙ sym (ap (drop_through line_feed) is ∙ drop_through-append line_feed line [] none)),
+      ap Some (kept ∙ end ∙ sym (ap (drop_through line_feed) is ∙ drop_through-append line_feed line [] none)),
     )
 
 -- A line that is too long, once its rest is skipped.
